@@ -1,5 +1,6 @@
 -- Instructions by their bytes, and the starts of a code.
-use Prim.Native.Nat.{ℕ, zero, suc, _+_, _*_}
+use Prim.Native.Nat.{ℕ, zero, suc, _+_, _-_, _*_}
+use lib.IntN.{ℤ, pos, negsuc}
 use mathlib.Core.List.{List, [], _∷_}
 use mathlib.Core.Bool.{Bool, true, false, cond}
 use lib.ListN.{length, getD, set, replicate}
@@ -103,6 +104,11 @@ whole code p (Some i) = cond (leb (p + sizeOf i) (length code)) (Some i) None
 
 abbrev pub decodeAt : List ℕ → ℕ → Option Instruction
 decodeAt code p = whole code p (instructionOf (byteAt code p) (byteAt code (p + 1)) (byteAt code (p + 2)))
+
+-- a branch goes to its own place plus its offset; before the code there is no place
+abbrev pub target : ℕ → ℤ → Option ℕ
+target p (pos n) = Some (p + n)
+target p (negsuc n) = cond (ltb n p) (Some (p - suc n)) None
 
 -- ## The starts: place 0, and the place after each instruction, decoded in order, that is still in the code
 

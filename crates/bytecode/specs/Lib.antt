@@ -1,3 +1,4 @@
 pub mod Outcome
 pub mod Instructions
 pub mod Program
+pub mod Stops

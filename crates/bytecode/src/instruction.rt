@@ -1,9 +1,9 @@
 // Instructions and their bytes. Opcodes stand here and nowhere else.
 ghost use mathlib.Core.Path.{_≡_};
-ghost use Prim.Native.Nat.{ℕ, _+_, _<_, _≤_};
+ghost use Prim.Native.Nat.{ℕ, _+_, _^_, _<_, _≤_};
 ghost use lib.ListN.{length, getD};
 ghost use Rattle.std.specs.Options.{Cases as BySome};
-ghost use Rattle.bytecode.specs.Instructions.{instructionOf, sizeOf, decodeAt, byteAt};
+ghost use Rattle.bytecode.specs.Instructions.{instructionOf, sizeOf, decodeAt, byteAt, target as targetOf};
 
 /// Two words to one.
 #[derive(Clone, Copy)]
@@ -170,4 +170,12 @@ pub fn decode(code: &[u8], place: usize) -> Option<Instruction>
 {
     let found = instruction_of(code[place], byte_or_zero(code, place + 1), byte_or_zero(code, place + 2))?;
     if found.size() <= code.len() - place { Some(found) } else { None }
+}
+
+/// Where a branch at a place of a code goes; none where that is before the code.
+pub fn target(place: usize, offset: i16) -> Option<usize>
+    requires { ⌜ place < 2 ^ 32 ⌝ }
+    ensures { λ r. ⌜ r ≡ targetOf place offset ⌝ }
+{
+    place.checked_add_signed(offset as isize)
 }
