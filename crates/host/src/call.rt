@@ -1,0 +1,41 @@
+// What passes between a machine and a host.
+use bytecode::kind::Kind;
+use bytecode::stop::HostFault;
+
+/// An argument of a call: a word, or a reference, of which a host sees only whether it is null.
+#[derive(Clone, Copy)]
+pub enum Argument {
+    Word(u32),
+    Reference { null: bool },
+}
+
+/// What a host sees of a text.
+#[derive(Clone, Copy)]
+pub struct Text<'a> {
+    pub bytes: &'a [u8],
+}
+
+/// A call of a native: the index in the host's table, the arguments, and the texts of the first two reference arguments.
+#[derive(Clone, Copy)]
+pub struct Call<'a> {
+    pub index: u16,
+    pub arguments: &'a [Argument],
+    pub first: Text<'a>,
+    pub second: Text<'a>,
+}
+
+/// A host's answer to a call: a word, null, a reference argument by its number among them, or a stop.
+#[derive(Clone, Copy)]
+pub enum Reply {
+    Word(u32),
+    Null,
+    Argument(u8),
+    Stop(HostFault),
+}
+
+/// The kinds of a native's arguments and of its result.
+#[derive(Clone, Copy)]
+pub struct Signature<'a> {
+    pub arguments: &'a [Kind],
+    pub result: Kind,
+}
