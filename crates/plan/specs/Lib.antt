@@ -1,0 +1,5 @@
+pub mod Programs
+pub mod Shapes
+pub mod Effects
+pub mod Plans
+pub mod Sweep
