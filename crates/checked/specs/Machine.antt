@@ -8,7 +8,6 @@ use lib.Dec.{eqb, ltb, leb}
 use lib.IntN.{ℤ}
 use mir.Val.{ofZ}
 use mir.Syntax.{w32}
-use Rattle.std.specs.Finite.{nth}
 use Rattle.std.specs.declared.option.Option.{Option}
 use Rattle.std.specs.declared.option.Option.the-variants.{Some, None}
 use Rattle.bytecode.specs.declared.kind.Kind.{Kind}
@@ -19,10 +18,15 @@ use Rattle.bytecode.specs.declared.instruction.Instruction.the-variants.{Nop, P
 use Rattle.bytecode.specs.Instructions.{sizeOf, decodeAt, target}
 use Rattle.bytecode.specs.Program.{Program, Function, Native, Signature}
 use Rattle.bytecode.specs.Stops.{Attempt, gives, stops}
+use Rattle.plan.specs.Programs.{nth}
 use Rattle.heap.specs.Checked.{Heap, Reference, null, text, block, new, newarray, arraylength, aaddf, aadds, imload, cmload, amload, imstore, cmstore, amstore}
 use Rattle.word.specs.Words.{compute, holds}
-use Rattle.host.specs.Hosts.{Host, Call}
-use Rattle.checked.specs.Runs.{Next, goes, ends, stops as halts, breaks, View}
+use Rattle.host.specs.Hosts.{Host, Call, Text, noText, textAt}
+use Rattle.host.specs.declared.call.Argument
+use Rattle.host.specs.declared.call.Argument.{Argument}
+use Rattle.host.specs.declared.call.Reply
+use Rattle.host.specs.declared.call.Reply.{Reply}
+use Rattle.checked.specs.Runs.{Next, goes, ends, stops as halts, breaks, View, Machine}
 
 -- ## Values, frames, configurations
 
@@ -118,12 +122,14 @@ takes (k ∷ ks) (v ∷ st) args = cond (isKind k v) (takes ks st (v ∷ args)) 
 abbrev pub arguments : Signature → List Value → Taken
 arguments g st = takes (reverse (g .arguments)) st []
 
--- what the host is told of a value
-abbrev pub argumentOf : Value → Rattle.host.specs.Hosts.Argument
-argumentOf (word n) = Rattle.host.specs.Hosts.word n
-argumentOf (reference null) = Rattle.host.specs.Hosts.reference true
-argumentOf (reference (text p)) = Rattle.host.specs.Hosts.reference false
-argumentOf (reference (block b o)) = Rattle.host.specs.Hosts.reference false
+-- ## What a host is told
+
+-- a word, or a reference with its null mark
+abbrev pub argumentOf : Value → Argument
+argumentOf (word n) = Argument.Word n
+argumentOf (reference null) = Argument.Reference true
+argumentOf (reference (text p)) = Argument.Reference false
+argumentOf (reference (block b o)) = Argument.Reference false
 
 -- the reference arguments, the first first
 abbrev pub references : List Value → List Reference
@@ -131,7 +137,31 @@ references [] = []
 references (word n ∷ vs) = references vs
 references (reference r ∷ vs) = r ∷ references vs
 
+-- the text of a reference: other than a text has none
+abbrev pub textOf : List ℕ → Reference → Text
+textOf strings null = noText
+textOf strings (text p) = textAt strings p
+textOf strings (block b o) = noText
+
+abbrev pub textIn : List ℕ → Option Reference → Text
+textIn strings None = noText
+textIn strings (Some r) = textOf strings r
+
+abbrev pub callOf : Program → Native → List Value → Call
+callOf P n args =
+    record
+      { index = n .index
+      ; arguments = map argumentOf args
+      ; first = textIn (P .strings) (nth (references args) 0)
+      ; second = textIn (P .strings) (nth (references args) 1) }
+
 -- ## One instruction
+
+-- the value of the variable i, if it is there and set
+abbrev pub variable : List (Option Value) → ℕ → Option Value
+variable [] i = None
+variable (v ∷ vs) zero = v
+variable (v ∷ vs) (suc i) = variable vs i
 
 module _ {S : Type 0} where
   -- a word or a reference taken off the top; too few values and a wrong kind break
@@ -162,12 +192,6 @@ module _ {S : Type 0} where
   abbrev pub found : {A : Type 0} → Option A → S → (A → Next Conf S) → Next Conf S
   found None s k = breaks s
   found (Some a) s k = k a
-
-  -- the value of the variable i
-  abbrev pub variable : List (Option Value) → ℕ → Option Value
-  variable [] i = None
-  variable (v ∷ vs) zero = v
-  variable (v ∷ vs) (suc i) = variable vs i
 
   -- two values of one kind: whether they are the same
   abbrev pub compared : Value → Value → S → (Bool → Next Conf S) → Next Conf S
@@ -245,7 +269,7 @@ module _ {S : Type 0} where
         cond (ltb c (length (P .strings))) (roomFor st s (resume f q vs (reference (text c) ∷ st) rest h s)) (breaks s)
     exec (Bipush b) f p q vs st rest h s = roomFor st s (resume f q vs (word (ofZ w32 b) ∷ st) rest h s)
     exec (Ildc c) f p q vs st rest h s = found (nth (P .integers) c) s (λ n. roomFor st s (resume f q vs (word n ∷ st) rest h s))
-    exec (Vload i) f p q vs st rest h s = found (variable {S = S} vs i) s (λ v. roomFor st s (resume f q vs (v ∷ st) rest h s))
+    exec (Vload i) f p q vs st rest h s = found (variable vs i) s (λ v. roomFor st s (resume f q vs (v ∷ st) rest h s))
     exec (Vstore i) f p q vs st rest h s =
         popAny st s (λ v t. cond (ltb i (length vs)) (resume f q (set vs i (Some v)) t rest h s) (breaks s))
     exec (Binary op) f p q vs st rest h s =

@@ -1,0 +1,1 @@
+// The checked machine, against which every run is measured, and what accepted programs are owed of it.
