@@ -1,3 +1,4 @@
 pub mod Runs
 pub mod Machine
 pub mod Law
+pub mod Sound

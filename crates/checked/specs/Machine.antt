@@ -3,7 +3,7 @@
 use mathlib.Core.List.{List, [], _∷_, _++_, map, reverse}
 use mathlib.Core.Bool.{Bool, true, false, cond, not}
 use Prim.Native.Nat.{ℕ, zero, suc, _+_, _-_}
-use lib.ListN.{length, set, replicate}
+use lib.ListN.{length, getD, set, replicate}
 use lib.Dec.{eqb, ltb, leb}
 use lib.IntN.{ℤ}
 use mir.Val.{ofZ}
@@ -159,9 +159,7 @@ callOf P n args =
 
 -- the value of the variable i, if it is there and set
 abbrev pub variable : List (Option Value) → ℕ → Option Value
-variable [] i = None
-variable (v ∷ vs) zero = v
-variable (v ∷ vs) (suc i) = variable vs i
+variable vs i = getD vs i None
 
 module _ {S : Type 0} where
   -- a word or a reference taken off the top; too few values and a wrong kind break
