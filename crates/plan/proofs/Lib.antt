@@ -3,3 +3,4 @@ pub mod Reaching
 pub mod Acting
 pub mod Applying
 pub mod Weighing
+pub mod Sweeping
