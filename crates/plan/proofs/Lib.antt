@@ -1,0 +1,6 @@
+pub mod Outcomes
+pub mod Reaching
+pub mod Acting
+pub mod Applying
+pub mod Weighing
+pub mod Sweeping
