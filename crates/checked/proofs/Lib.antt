@@ -1,2 +1,6 @@
 pub mod Running
 pub mod Growing
+pub mod Stacking
+pub mod Pieces
+pub mod Sounding
+pub mod Standing

@@ -208,16 +208,37 @@ module _ {S : Type 0} where
   onlyValue (v ∷ []) s k = k v
   onlyValue (v ∷ u ∷ st) s k = breaks s
 
+  -- the frame goes on at a place with these variables and this stack
+  abbrev pub resume : ℕ → ℕ → List (Option Value) → List Value → List Frame → Heap → S → Next Conf S
+  resume f p vs st rest h s = goes (conf (frame f p vs st) rest h) s
+
+  -- a branch at p that is taken or not; q is the place after it
+  abbrev pub branch : Bool → ℤ → ℕ → ℕ → ℕ → List (Option Value) → List Value → List Frame → Heap → S → Next Conf S
+  branch true o f p q vs st rest h s = found (target p o) s (λ to. resume f to vs st rest h s)
+  branch false o f p q vs st rest h s = resume f q vs st rest h s
+
+  -- a value handed to the frame that awaits it, or main's word
+  abbrev pub return : Value → List Frame → Heap → S → Next Conf S
+  return (word n) [] h s = ends n s
+  return (reference r) [] h s = breaks s
+  return v (frame f p vs st ∷ rest) h s = roomFor st s (resume f p vs (v ∷ st) rest h s)
+
+  -- a host's reply to a native that gives a value of kind k
+  abbrev pub answered : Kind → Reply → List Reference → S → (Value → Next Conf S) → Next Conf S
+  answered Unknown (Reply.Word n) rs s k = breaks s
+  answered Unknown Reply.Null rs s k = breaks s
+  answered Unknown (Reply.Argument j) rs s k = breaks s
+  answered Unknown (Reply.Stop e) rs s k = halts (ByHost e) s
+  answered Word (Reply.Word n) rs s k = k (word n)
+  answered Word Reply.Null rs s k = breaks s
+  answered Word (Reply.Argument j) rs s k = breaks s
+  answered Word (Reply.Stop e) rs s k = halts (ByHost e) s
+  answered Ref (Reply.Word n) rs s k = breaks s
+  answered Ref Reply.Null rs s k = k (reference null)
+  answered Ref (Reply.Argument j) rs s k = found (nth rs j) s (λ r. k (reference r))
+  answered Ref (Reply.Stop e) rs s k = halts (ByHost e) s
+
   module _ (P : Program) (host : Host S) (sizes : Sizes) where
-    -- the frame goes on at a place with these variables and this stack
-    abbrev pub resume : ℕ → ℕ → List (Option Value) → List Value → List Frame → Heap → S → Next Conf S
-    resume f p vs st rest h s = goes (conf (frame f p vs st) rest h) s
-
-    -- a branch at p that is taken or not; q is the place after it
-    abbrev pub branch : Bool → ℤ → ℕ → ℕ → ℕ → List (Option Value) → List Value → List Frame → Heap → S → Next Conf S
-    branch true o f p q vs st rest h s = found (target p o) s (λ to. resume f to vs st rest h s)
-    branch false o f p q vs st rest h s = resume f q vs st rest h s
-
     -- a call of function c that is g: stop 10 exactly when no frame is free, or what all frames and the new one reserve exceeds the slots
     abbrev pub enter : ℕ → Function → List Value → ℕ → ℕ → List (Option Value) → List Value → List Frame → Heap → S → Next Conf S
     enter c g args f q vs st rest h s =
@@ -226,27 +247,6 @@ module _ {S : Type 0} where
         (goes (conf (frame c 0 (map Some args ++ replicate (g .variables - length args) None) []) (frame f q vs st ∷ rest) h) s)
         (halts Calls s))
         (halts Calls s)
-
-    -- a value handed to the frame that awaits it, or main's word
-    abbrev pub return : Value → List Frame → Heap → S → Next Conf S
-    return (word n) [] h s = ends n s
-    return (reference r) [] h s = breaks s
-    return v (frame f p vs st ∷ rest) h s = roomFor st s (resume f p vs (v ∷ st) rest h s)
-
-    -- a host's reply to a native that gives a value of kind k
-    abbrev pub answered : Kind → Reply → List Reference → S → (Value → Next Conf S) → Next Conf S
-    answered Unknown (Reply.Word n) rs s k = breaks s
-    answered Unknown Reply.Null rs s k = breaks s
-    answered Unknown (Reply.Argument j) rs s k = breaks s
-    answered Unknown (Reply.Stop e) rs s k = halts (ByHost e) s
-    answered Word (Reply.Word n) rs s k = k (word n)
-    answered Word Reply.Null rs s k = breaks s
-    answered Word (Reply.Argument j) rs s k = breaks s
-    answered Word (Reply.Stop e) rs s k = halts (ByHost e) s
-    answered Ref (Reply.Word n) rs s k = breaks s
-    answered Ref Reply.Null rs s k = k (reference null)
-    answered Ref (Reply.Argument j) rs s k = found (nth rs j) s (λ r. k (reference r))
-    answered Ref (Reply.Stop e) rs s k = halts (ByHost e) s
 
     -- stop 12 unless the host's signature is the sheet's, then the host's reply
     abbrev pub ask : Native → List Value → S → (Value → S → Next Conf S) → Next Conf S
