@@ -4,3 +4,5 @@ pub mod Acting
 pub mod Applying
 pub mod Weighing
 pub mod Sweeping
+pub mod Starting
+pub mod Judging

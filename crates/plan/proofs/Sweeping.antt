@@ -13,7 +13,7 @@ use Rattle.bytecode.specs.Program.{Program}
 use Rattle.plan.specs.Programs.{functionAt, variablesAt, WellFormed}
 use Rattle.plan.specs.Shapes.{Shape, Reach, Merged, same, changed, clash, merge, Sized}
 use Rattle.plan.specs.Plans.{Plan, startsAt, shapeAt, Hits, Lands, entryOf, Passes, Good, Fullest}
-use Rattle.plan.specs.Sweep.{Cell, off, blank, marked, settled, Table, at, shapeOf, planOf, fresh, countTrue, merged, join, put, spread, lowest, apply, visit, Answer, turn, run, most, sweepMarks}
+use Rattle.plan.specs.Sweep.{Cell, off, blank, marked, settled, Table, at, shapeOf, planOf, fresh, countTrue, merged, join, put, spread, lowest, apply, visit, Answer, turn, run, most, sweepWithin, sweepMarks}
 use Rattle.plan.proofs.Outcomes.{On, on-bind, on-map}
 use Rattle.plan.proofs.Reaching.{reach-both, Met, met}
 use Rattle.plan.proofs.Applying.{LandsIn, passes-on, on-passes, apply-mono, apply-keeps}
@@ -228,7 +228,7 @@ module _ (P : Program) (f : ℕ) (Q : Plan) (ok : Good P f Q) where
           absurd (true≢false (sym a ∙ ap (λ m. getD m p false) there ∙ h))
 
   sweep-below : (marks : List Bool) → startsAt P f ≡ marks → On ⊥ (λ r. AllBelow (r .0) Q) (sweepMarks P f marks)
-  unfolding sweepMarks
+  unfolding sweepWithin
   sweep-below marks there =
       on-bind _ (λ U. AllBelow U Q) _ (put f 0 (map fresh marks) (Some 0) (entryOf (functionAt P f))) _
       (put-below f 0 _ (Some 0) (entryOf (functionAt P f)) Q (fresh-below marks Q (off-starts marks there)) (ok .begins)) (run-below _ 0)
@@ -309,12 +309,21 @@ module _ (P : Program) (formed : WellFormed P) (f : ℕ) (marks : List Bool) (th
         unsettled p s (inr e) d = absurd (true≢false (cc))
 
     sweep-ends : On (Unit {0}) (λ r. Inv P formed f marks (r .0) × Unmarked (r .0) × (r .1 ≤ most P f marks)) (sweepMarks P f marks)
-    unfolding sweepMarks
+    unfolding sweepWithin
     sweep-ends =
         on-bind _ (λ U. Inv P formed f marks U × (total (variablesAt P f) U ≤ most P f marks)) _ (put f 0 (map fresh marks) (Some 0) (entryOf (functionAt P f))) _ first-inv
         (λ U j. on-map _ (Ended P formed f marks 0 U) _ (run P f (most P f marks) 0 U)
           (λ r w. (w .inv, w .unmarked, omega (arith, w .takes, j .1)))
           (run-ends P formed f marks (most P f marks) 0 U (j .0) (j .1)))
+
+    pub sweep-fuel : (k : ℕ) → most P f marks ≤ k → sweepWithin P f k marks ≡ sweepMarks P f marks
+    unfolding sweepWithin
+    sweep-fuel k l = go (put f 0 (map fresh marks) (Some 0) (entryOf (functionAt P f))) first-inv
+      where
+        go : (r : Out Table) → On (Unit {0}) (λ U. Inv P formed f marks U × (total (variablesAt P f) U ≤ most P f marks)) r
+          → bind r (run P f k 0) ≡ bind r (run P f (most P f marks) 0)
+        go (bad x) h = refl
+        go (good U) h = run-fuel P formed f marks k (most P f marks) 0 U (h .0 .sized) (omega (arith, h .1, l)) (h .1)
 
     pub sweep-fullest : On ((Q : Plan) → Good P f Q → ⊥)
         (λ r. Fullest P f (planOf (r .0)) × Finished marks (r .0) × (r .1 ≤ most P f marks)) (sweepMarks P f marks)
