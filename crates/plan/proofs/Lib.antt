@@ -6,3 +6,4 @@ pub mod Weighing
 pub mod Sweeping
 pub mod Starting
 pub mod Judging
+pub mod Following
