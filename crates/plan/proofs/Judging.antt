@@ -1,10 +1,11 @@
 -- The judgement of a program: accepted if and only if every function has a good plan, and then its tables are the fullest plans.
-use Prim.Native.Nat.{ℕ, zero, suc, _+_, _-_, _<_, _≤_}
+use Prim.Native.Nat.{ℕ, zero, suc, _+_, _-_, _*_, _<_, _≤_}
 use mathlib.Core.Path.{_≡_, refl, sym, ap, _∙_, subst}
 use mathlib.Core.List.{List, [], _∷_, _++_}
 use mathlib.Core.Bool.{Bool, true, false, true≢false}
 use mathlib.Core.Logic.{_⊎_, inl, inr}
 use native.Mathlib.Omega.{arith}
+use native.Mathlib.Nat.{mul-le-mul-left}
 use lib.ListN.{length, getD, replicate, length-append, length-replicate}
 use Rattle.std.specs.declared.option.Option.{Option}
 use Rattle.std.specs.declared.option.Option.the-variants.{Some, None}
@@ -17,11 +18,11 @@ use Rattle.plan.specs.Programs.{nth, noFunction, functionAt, codeAt, variables
 use Rattle.plan.specs.Shapes.{Shape, Sized}
 use Rattle.plan.specs.Starts.{Marked}
 use Rattle.plan.specs.Plans.{Plan, marksIn, startsAt, Hits, entryOf, Good, Fullest}
-use Rattle.plan.specs.Sweep.{Table, planOf, Answer, most, sweepMarks, sweepFunction, decodeFrom, decodeAll, Judgement, after, sweepFrom, sweepAll, judge}
-use Rattle.plan.specs.Judgement.{Settled, Planless, Swept, AllPlanned, mostFrom, mostTakes, Accepted, Decodes, Answers, FirstUndecoded, FirstFaulty, Refused, Accepts, Says, Judged}
+use Rattle.plan.specs.Sweep.{Table, planOf, countTrue, Answer, most, sweepMarks, sweepFunction, decodeFrom, decodeAll, Judgement, after, sweepFrom, sweepAll, judge}
+use Rattle.plan.specs.Judgement.{Settled, Planless, Swept, AllPlanned, mostFrom, mostTakes, Accepted, Decodes, Answers, FirstUndecoded, FirstFaulty, Refused, Accepts, Says, Judged, TakesSuffice, StartsStand, bytesFrom, TakesWithin}
 use Rattle.plan.proofs.Outcomes.{On, on-good, good-bad}
 use Rattle.plan.proofs.Starting.{starts-marked}
-use Rattle.plan.proofs.Sweeping.{Finished, sweep-fullest}
+use Rattle.plan.proofs.Sweeping.{Finished, sweep-fuel, sweep-fullest}
 
 -- ## The entry shape
 
@@ -254,3 +255,38 @@ module _ (P : Program) where
               { says = h
               ; accepts = λ all. tt
               ; planned = λ y f l. (planOf (getD (r .0) f []), h .settled f l .fullest .sound) }
+
+-- ## Takes
+
+pub takes-suffice : TakesSuffice
+takes-suffice P formed f marks e k l =
+    sweep-fuel P formed f marks (ap marksIn e) (entry-sized (functionAt P f) (formed-at P formed f)) k l
+
+pub starts-stand : StartsStand
+starts-stand f code marks e = on-good (Unit {0}) (Marked code) (startsOf f code) marks e (starts-marked code f)
+
+count-le : (bs : List Bool) → countTrue bs ≤ length bs
+count-le [] = omega arith
+count-le (true ∷ bs) = let ih = count-le bs in omega arith
+count-le (false ∷ bs) = let ih = count-le bs in omega arith
+
+starts-few : (P : Program) (f : ℕ) → countTrue (startsAt P f) ≤ length (codeAt P f)
+starts-few P f = go (startsOf f (codeAt P f)) (starts-marked (codeAt P f) f)
+  where
+    go : (o : Out (List Bool)) → On (Unit {0}) (Marked (codeAt P f)) o → countTrue (marksIn o) ≤ length (codeAt P f)
+    go (bad e) h = omega arith
+    go (good marks) h = omega (arith, count-le marks, h .size)
+
+-- a function has at most 33 takes for each byte of its code
+pub most-bytes : (P : Program) → WellFormed P → (f : ℕ) → most P f (startsAt P f) ≤ 33 * length (codeAt P f)
+most-bytes P formed f =
+    let a : variablesAt P f + 1 ≤ 33 = omega (arith, formed-at P formed f .few) in
+    let b = mul-le-mul-left (countTrue (startsAt P f)) a in
+    omega (arith, starts-few P f, b)
+
+pub most-from-bytes : (P : Program) → WellFormed P → (n f : ℕ) → mostFrom P n f ≤ 33 * bytesFrom P n f
+most-from-bytes P formed zero f = omega arith
+most-from-bytes P formed (suc n) f = let ih = most-from-bytes P formed n (suc f) in omega (arith, most-bytes P formed f)
+
+pub takes-within : (k : ℕ) → 135168 ≤ k → TakesWithin k
+takes-within k l P formed h = omega (arith, most-from-bytes P formed (length (P .functions)) 0)

@@ -8,10 +8,11 @@ use lib.ListN.{length, getD}
 use Rattle.bytecode.specs.Instructions.{startsOf}
 use Rattle.bytecode.specs.Outcome.{Fault, Out, bad, good}
 use Rattle.bytecode.specs.Program.{Program}
-use Rattle.plan.specs.Programs.{codeAt}
+use Rattle.plan.specs.Programs.{codeAt, WellFormed}
 use Rattle.plan.specs.Shapes.{Shape}
+use Rattle.plan.specs.Starts.{Marked}
 use Rattle.plan.specs.Plans.{Plan, startsAt, Good, Fullest}
-use Rattle.plan.specs.Sweep.{marked, Table, at, planOf, Answer, most, sweepFunction, Judgement}
+use Rattle.plan.specs.Sweep.{marked, Table, at, planOf, Answer, most, sweepWithin, sweepMarks, sweepFunction, Judgement, judge}
 
 -- ## One function
 
@@ -86,3 +87,33 @@ pub record Judged (P : Program) (outcome : Judgement) : Type 0 where
   pub says : Says P outcome
   pub accepts : AllPlanned P → Accepts outcome
   pub planned : Accepts outcome → AllPlanned P
+
+-- ## The theorems
+
+abbrev pub JudgementStands : Type 0
+JudgementStands = (P : Program) → WellFormed P → Judged P (judge P)
+
+abbrev pub SweepStands : Type 0
+SweepStands = (P : Program) → WellFormed P → (f : ℕ) → Swept P f (sweepFunction P f)
+
+-- a sweep that may take more than S × (V + 1) places comes to the same
+abbrev pub TakesSuffice : Type 0
+TakesSuffice = (P : Program) → WellFormed P → (f : ℕ) (marks : List Bool) → startsOf f (codeAt P f) ≡ good marks → (k : ℕ) → most P f marks ≤ k
+    → sweepWithin P f k marks ≡ sweepMarks P f marks
+
+-- there is at most one fullest plan
+abbrev pub OneFullest : Type 0
+OneFullest = (P : Program) (f : ℕ) (plan other : Plan) → Fullest P f plan → Fullest P f other → (p : ℕ) → plan p ≡ other p
+
+-- decoding marks the starts
+abbrev pub StartsStand : Type 0
+StartsStand = (f : ℕ) (code : List ℕ) (marks : List Bool) → startsOf f code ≡ good marks → Marked code marks
+
+-- how many bytes of code n functions have, from number f on
+abbrev pub bytesFrom : Program → ℕ → ℕ → ℕ
+bytesFrom P zero f = 0
+bytesFrom P (suc n) f = length (codeAt P f) + bytesFrom P n (suc f)
+
+-- a program of at most 4,096 code bytes has at most so many takes
+abbrev pub TakesWithin : ℕ → Type 0
+TakesWithin most = (P : Program) → WellFormed P → bytesFrom P (length (P .functions)) 0 ≤ 4096 → mostTakes P ≤ most

@@ -5,3 +5,4 @@ pub mod Starts
 pub mod Plans
 pub mod Sweep
 pub mod Judgement
+pub mod Samples
