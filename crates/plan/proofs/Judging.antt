@@ -22,6 +22,7 @@ use Rattle.plan.specs.Sweep.{Table, planOf, countTrue, Answer, most, sweepMark
 use Rattle.plan.specs.Judgement.{Settled, Planless, Swept, AllPlanned, mostFrom, mostTakes, Accepted, Decodes, Answers, FirstUndecoded, FirstFaulty, Refused, Accepts, Says, Judged, TakesSuffice, StartsStand, bytesFrom, TakesWithin}
 use Rattle.plan.proofs.Outcomes.{On, on-good, good-bad}
 use Rattle.plan.proofs.Starting.{starts-marked}
+use Rattle.plan.proofs.Placing.{InFunction, starts-in-function, sweep-in-function}
 use Rattle.plan.proofs.Sweeping.{Finished, sweep-fuel, sweep-fullest}
 
 -- ## The entry shape
@@ -211,6 +212,7 @@ module _ (P : Program) where
         let d : startsOf (k .index) (codeAt P (k .index)) ≡ bad e = subst (λ f. startsOf f (codeAt P f) ≡ bad e) z (k .fault) in
         record
           { function = k .index
+          ; named = subst (InFunction (k .index)) d (starts-in-function (k .index) (codeAt P (k .index)))
           ; inside = k .inside
           ; first = inl (record { fault = d; before = from-zero (Decodes P) (k .index) (k .before) })
           ; planless = undecoded-planless P (k .index) e d }
@@ -222,6 +224,7 @@ module _ (P : Program) where
         let d : sweepFunction P (k .index) ≡ bad e = subst (λ f. sweepFunction P f ≡ bad e) z (k .fault) in
         record
           { function = k .index
+          ; named = subst (InFunction (k .index)) d (sweep-in-function (k .index) P)
           ; inside = k .inside
           ; first = inr
               (record

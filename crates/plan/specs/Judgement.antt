@@ -70,6 +70,7 @@ pub record FirstFaulty (P : Program) (f : ℕ) (e : Fault) : Type 0 where
 -- refused: by the fault of the first such function, which has no good plan
 pub record Refused (P : Program) (e : Fault) : Type 0 where
   pub function : ℕ
+  pub named : e .1 ≡ function
   pub inside : function < length (P .functions)
   pub first : FirstUndecoded P function e ⊎ FirstFaulty P function e
   pub planless : Planless P function
