@@ -1,0 +1,5 @@
+use Rattle.heap.proofs.Standing.{stands}
+use Rattle.heap.proofs.memory_stands.Needs as need
+
+pub returns : need.returns
+returns c = stands
