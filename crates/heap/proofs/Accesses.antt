@@ -1,21 +1,18 @@
 -- Loads and stores: storage answers, stops and is left as the heap that it represents.
 use mathlib.Core.Path.{_≡_, refl, sym, ap, ap₂, _∙_, subst, subst₂}
-use mathlib.Core.List.{List}
 use mathlib.Core.Bool.{Bool, true, false, cond}
 use Prim.Native.Nat.{ℕ, _+_, _-_, _*_, _/_, _%_, _^_, _<_, _≤_}
 use native.Mathlib.Omega.{arith}
-use lib.ListN.{getD, set}
-use lib.Dec.{eqb, ltb, leb}
-use borrow.Author.Tests.{leb-true, leb-false, ltb-false}
+use lib.Dec.{eqb, ltb}
+use borrow.Author.Tests.{ltb-false}
 use Rattle.bytecode.specs.Stops.{Attempt, gives, stops, andThen}
 use Rattle.bytecode.specs.declared.stop.Stop.the-variants.{Null, Bounds, Text, Alignment, Mark}
 use Rattle.heap.specs.declared.Cell.{Cell}
-use Rattle.heap.specs.Checked.{null, text, block, Content, Layout, single, array, Heap, dataEnd, room, blockAt, Spot, within, reach, cellAt, putAt, stored, putWord, readWord, readByte, readReference, writeWord, writeByte, writeReference, imload, cmload, amload, imstore, cmstore, amstore}
-use Rattle.heap.specs.Storage.{Storage, Known, referenceOf, blockOf, offsetOf, fromBytes, toBytes, unmarked, holding, cellIn, recordIn, withCell, recordOf, locateIn, locate, wordIn, byteIn, numberIn, wordInto, byteInto, numberInto, storedIn, loadWord, loadByte, loadReference, storeWord, storeByte, storeReference}
+use Rattle.heap.specs.Checked.{null, text, block, Content, Layout, single, array, Heap, dataEnd, room, blockAt, Spot, within, reach, cellAt, putAt, stored, readWord, readByte, readReference, writeWord, writeByte, writeReference, imload, cmload, amload, imstore, cmstore, amstore}
+use Rattle.heap.specs.Storage.{Storage, Known, referenceOf, blockOf, offsetOf, fromBytes, cellIn, recordIn, withCell, recordOf, locateIn, locate, wordIn, byteIn, numberIn, wordInto, byteInto, numberInto, storedIn, loadWord, loadByte, loadReference, storeWord, storeByte, storeReference}
 use Rattle.heap.specs.Relation.{contentOf, references, Names, Match, Same, give, stop}
-use Rattle.heap.proofs.Numbering.{fromBytes-toBytes}
 use Rattle.heap.proofs.Contents.{contents, readWord-contentOf, readByte-contentOf, readReference-contentOf, writeWord-contentOf, writeByte-contentOf, writeReference-contentOf}
-use Rattle.heap.proofs.Soundness.{Naming}
+use Rattle.heap.proofs.Soundness.{Naming, Puts, puts-wordInto, puts-byteInto, puts-numberInto, known-small}
 use Rattle.heap.proofs.Writes.{match-withCell}
 
 -- the spot in a block that begins at cell `start`, and the index of its cell
@@ -128,55 +125,34 @@ module _ (h : Heap) (l : Storage) (m : Match h l) (n : ℕ) (known : Known (l .c
           names-numberIn (cellIn l b) (m .sound .names b lt)
       go stop = tt
 
-  -- the cell that a store puts, if any, names what there is
-  abbrev Puts : Attempt Cell → Type 0
-  Puts (gives c) = Naming (l .count) c
-  Puts (stops e) = Unit {0}
-
-  put-same : (p : Spot) (j : ℕ) → Here p j → (o : Attempt Cell) → Puts o → Same Match (stored h p (contents o)) (storedIn l j o)
+  put-same : (p : Spot) (j : ℕ) → Here p j → (o : Attempt Cell) → Puts (l .count) o → Same Match (stored h p (contents o)) (storedIn l j o)
   put-same p j r (gives c) ok =
       give (subst (λ i. Match (putAt h p (contentOf c)) (withCell l i c)) (sym (r .index-is))
         (match-withCell h l m (p .block) (p .cell) (r .there) (r .short) c ok))
   put-same p j r (stops e) ok = stop
 
   stores : {x : Attempt Spot} {y : Attempt ℕ} (f : Spot → Attempt Content) (g : ℕ → Attempt Cell)
-    → ((p : Spot) (j : ℕ) → Here p j → f p ≡ contents (g j)) → ((j : ℕ) → Puts (g j)) → Same Here x y
+    → ((p : Spot) (j : ℕ) → Here p j → f p ≡ contents (g j)) → ((j : ℕ) → Puts (l .count) (g j)) → Same Here x y
     → Same Match (andThen x (λ p. stored h p (f p))) (andThen y (λ j. storedIn l j (g j)))
   stores f g w k (give {a} {b} r) =
       subst (λ o. Same Match (stored h a o) (storedIn l b (g b))) (sym (w a b r)) (put-same a b r (g b) (k b))
   stores f g w k stop = stop
 
-  puts-unmarked : (t : Bool) (bs : List ℕ) → Puts (cond t (stops Mark) (gives (unmarked bs)))
-  puts-unmarked true bs = tt
-  puts-unmarked false bs = λ e. let z : _≡_ {A = ℕ} 0 1 = cc in absurd (let f : ⊥ = omega arith in f)
-
   pub imstore-same : (w : ℕ) → Same Match (imstore h (referenceOf n) w) (storeWord l n w)
   imstore-same w =
       stores (λ p. writeWord (cellAt h p) (p .byte) w) (λ j. wordInto (cellIn l j) (n % 8) w)
       (λ p j r. ap₂ (λ x y. writeWord x y w) (cellAt-contentOf p j r) (r .byte-is) ∙ writeWord-contentOf (cellIn l j) (n % 8) w)
-      (λ j. puts-unmarked (cellIn l j .mark) (putWord (cellIn l j .bytes) (n % 8) w)) (reach-same 4 (omega arith))
+      (λ j. puts-wordInto (l .count) (cellIn l j) (n % 8) w) (reach-same 4 (omega arith))
 
   pub cmstore-same : (w : ℕ) → Same Match (cmstore h (referenceOf n) w) (storeByte l n w)
   cmstore-same w =
       stores (λ p. writeByte (cellAt h p) (p .byte) w) (λ j. byteInto (cellIn l j) (n % 8) w)
       (λ p j r. ap₂ (λ x y. writeByte x y w) (cellAt-contentOf p j r) (r .byte-is) ∙ writeByte-contentOf (cellIn l j) (n % 8) w)
-      (λ j. puts-unmarked (cellIn l j .mark) (set (cellIn l j .bytes) (n % 8) (w % 128))) (reach-same 1 (omega arith))
+      (λ j. puts-byteInto (l .count) (cellIn l j) (n % 8) w) (reach-same 1 (omega arith))
 
-  module _ (v : ℕ) (kv : Known (l .count) v) where
-    known-small : v < 2 ^ 64
-    known-small = go (leb (2 ^ 32) v) refl
-      where
-        go : (t : Bool) → leb (2 ^ 32) v ≡ t → v < 2 ^ 64
-        go true e = let a = kv (leb-true (2 ^ 32) v e) in let b = m .sound .few-records in let r = m .sound .records-fit in omega arith
-        go false e = let a = leb-false (2 ^ 32) v e in omega arith
-
-    puts-holding : (t u : Bool) → Puts (cond t (gives (holding v)) (cond u (gives (holding v)) (stops Mark)))
-    puts-holding true u = λ _. subst (Known (l .count)) (sym (fromBytes-toBytes v known-small)) kv
-    puts-holding false true = λ _. subst (Known (l .count)) (sym (fromBytes-toBytes v known-small)) kv
-    puts-holding false false = tt
-
-    pub amstore-same : Same Match (amstore h (referenceOf n) (referenceOf v)) (storeReference l n v)
-    amstore-same =
-        stores (λ p. writeReference (cellAt h p) (referenceOf v)) (λ j. numberInto (cellIn l j) v)
-        (λ p j r. ap (λ x. writeReference x (referenceOf v)) (cellAt-contentOf p j r) ∙ writeReference-contentOf v known-small (cellIn l j))
-        (λ j. puts-holding (cellIn l j .mark) (eqb (fromBytes (cellIn l j .bytes)) 0)) (reach-same 8 (omega arith))
+  pub amstore-same : (v : ℕ) → Known (l .count) v → Same Match (amstore h (referenceOf n) (referenceOf v)) (storeReference l n v)
+  amstore-same v kv =
+      let small = known-small l (m .sound) v kv in
+      stores (λ p. writeReference (cellAt h p) (referenceOf v)) (λ j. numberInto (cellIn l j) v)
+      (λ p j r. ap (λ x. writeReference x (referenceOf v)) (cellAt-contentOf p j r) ∙ writeReference-contentOf v small (cellIn l j))
+      (λ j. puts-numberInto (l .count) (cellIn l j) v kv small) (reach-same 8 (omega arith))

@@ -1,18 +1,21 @@
 -- Storage stays sound: at its beginning, with one cell written, and with one block more.
 use mathlib.Core.Path.{_≡_, refl, sym, ap, _∙_, subst}
 use mathlib.Core.List.{List, []}
-use mathlib.Core.Bool.{Bool, true, false}
+use mathlib.Core.Bool.{Bool, true, false, cond}
 use mathlib.Core.Logic.{_≢_}
 use Prim.Native.Nat.{ℕ, _+_, _-_, _*_, _/_, _%_, _^_, _<_, _≤_}
 use native.Mathlib.Omega.{arith}
 use lib.ListN.{length, getD, set, length-set}
 use lib.Seq.{getD-set-same, getD-set-other}
-use lib.Dec.{eqb, ltb}
-use borrow.Author.Tests.{eqb-true, eqb-false, ltb-true, ltb-false}
+use lib.Dec.{eqb, ltb, leb}
+use borrow.Author.Tests.{eqb-true, eqb-false, ltb-true, ltb-false, leb-true, leb-false}
+use Rattle.bytecode.specs.Stops.{Attempt, gives, stops}
+use Rattle.bytecode.specs.declared.stop.Stop.the-variants.{Mark}
 use Rattle.heap.specs.declared.Cell.{Cell}
 use Rattle.heap.specs.declared.BlockRecord.{BlockRecord}
-use Rattle.heap.specs.Checked.{Layout, single, array, room}
-use Rattle.heap.specs.Storage.{Storage, Sound, Bounded, Known, noCell, noRecord, cellIn, recordIn, recordOf, withCell, placed, fromBytes}
+use Rattle.heap.specs.Checked.{Layout, single, array, room, putWord}
+use Rattle.heap.specs.Storage.{Storage, Sound, Bounded, Known, noCell, noRecord, cellIn, recordIn, recordOf, withCell, placed, fromBytes, unmarked, holding, wordInto, byteInto, numberInto}
+use Rattle.heap.proofs.Numbering.{fromBytes-toBytes}
 use Rattle.heap.proofs.Clearing.{length-laid, laid-below, laid-in}
 
 pub sound-empty : (l : Storage) → l .used ≡ 0 → l .count ≡ 0 → length (l .cells) < 2 ^ 28 → length (l .records) < 2 ^ 31 → Sound l
@@ -43,6 +46,37 @@ sound-withCell l j c s ok =
     go i w false p =
         let e : getD (set (l .cells) j c) i noCell ≡ cellIn l i = getD-set-other (l .cells) j i c noCell (eqb-false i j p) in
         subst (Naming (l .count)) (sym e) (s .names i w)
+
+-- the cell that a store puts, if any, names what there is
+abbrev pub Puts : ℕ → Attempt Cell → Type 0
+Puts count (gives c) = Naming count c
+Puts count (stops e) = Unit {0}
+
+puts-unmarked : (count : ℕ) (t : Bool) (bs : List ℕ) → Puts count (cond t (stops Mark) (gives (unmarked bs)))
+puts-unmarked count true bs = tt
+puts-unmarked count false bs = λ e. let z : _≡_ {A = ℕ} 0 1 = cc in absurd (let f : ⊥ = omega arith in f)
+
+pub puts-wordInto : (count : ℕ) (c : Cell) (i w : ℕ) → Puts count (wordInto c i w)
+puts-wordInto count c i w = puts-unmarked count (c .mark) (putWord (c .bytes) i w)
+
+pub puts-byteInto : (count : ℕ) (c : Cell) (i w : ℕ) → Puts count (byteInto c i w)
+puts-byteInto count c i w = puts-unmarked count (c .mark) (set (c .bytes) i (w % 128))
+
+pub puts-numberInto : (count : ℕ) (c : Cell) (v : ℕ) → Known count v → v < 2 ^ 64 → Puts count (numberInto c v)
+puts-numberInto count c v kv small = go (c .mark) (eqb (fromBytes (c .bytes)) 0)
+  where
+    go : (t u : Bool) → Puts count (cond t (gives (holding v)) (cond u (gives (holding v)) (stops Mark)))
+    go true u = λ _. subst (Known count) (sym (fromBytes-toBytes v small)) kv
+    go false true = λ _. subst (Known count) (sym (fromBytes-toBytes v small)) kv
+    go false false = tt
+
+-- the number of a reference takes eight bytes
+pub known-small : (l : Storage) → Sound l → (v : ℕ) → Known (l .count) v → v < 2 ^ 64
+known-small l s v kv = go (leb (2 ^ 32) v) refl
+  where
+    go : (t : Bool) → leb (2 ^ 32) v ≡ t → v < 2 ^ 64
+    go true e = let a = kv (leb-true (2 ^ 32) v e) in let b = s .few-records in let r = s .records-fit in omega arith
+    go false e = let a = leb-false (2 ^ 32) v e in omega arith
 
 bounded-recordOf : (i used : ℕ) (how : Layout) → i + room how ≤ used → Bounded used (recordOf i how)
 bounded-recordOf i used (single s) h = record { cells-used = h; elements = λ z. absurd (let f : ⊥ = omega arith in f) }

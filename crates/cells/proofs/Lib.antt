@@ -1,0 +1,3 @@
+pub mod Stores
+pub mod Clears
+pub mod Arrays
