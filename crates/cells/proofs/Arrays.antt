@@ -22,8 +22,9 @@ module _ (l : Storage) (sound : Sound l) (n : ℕ) (known : Known (l .count) n) 
     where
       never : {A : Type 0} → _≡_ {A = ℕ} 0 1 → A
       never z = absurd (let f : ⊥ = omega arith in f)
+
       go : (e f g k : Bool) → ltb n (2 ^ 32) ≡ f → ltb 0 (recordIn l (blockOf n) .from) ≡ g → eqb (offsetOf n) 0 ≡ k
-        → gives r ≡ cond e (stops Null) (cond f (stops Array) (cond g (cond k (gives (recordIn l (blockOf n))) (stops Array)) (stops Array))) → ArrayOf n r
+          → gives r ≡ cond e (stops Null) (cond f (stops Array) (cond g (cond k (gives (recordIn l (blockOf n))) (stops Array)) (stops Array))) → ArrayOf n r
       go true f g k p q s w = never (cc)
       go false true g k p q s w = never (cc)
       go false false false k p q s w = never (cc)

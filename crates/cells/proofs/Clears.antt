@@ -1,5 +1,5 @@
--- Cells cleared one after another, and storage with a new block in cells that were cleared.
-use mathlib.Core.Path.{_≡_, refl, sym, ap, _∙_}
+-- Cells cleared one after another.
+use mathlib.Core.Path.{_≡_, sym, ap, _∙_}
 use mathlib.Core.List.{List}
 use Prim.Native.Nat.{ℕ, suc, _+_, _-_, _<_}
 use native.Mathlib.Omega.{arith}
@@ -13,7 +13,7 @@ clear-suc : (mem : List Cell) (i k n : ℕ) → n ≡ suc k → clear mem i n �
 clear-suc mem i k n e = ap (clear mem i) e ∙ ap (λ m. clear (set mem i (unmarked zeros)) m k) (sym (add-one i))
 
 pub clear-one-more : (mem : List Cell) (from i n : ℕ) → i < n
-  → clear mem (from + i) (n - i) ≡ clear (set mem (from + i) (unmarked zeros)) (from + (i + 1)) (n - (i + 1))
+    → clear mem (from + i) (n - i) ≡ clear (set mem (from + i) (unmarked zeros)) (from + (i + 1)) (n - (i + 1))
 clear-one-more mem from i n lt =
     let e : n - i ≡ suc (n - (i + 1)) = omega arith in
     let a : (from + i) + 1 ≡ from + (i + 1) = omega arith in

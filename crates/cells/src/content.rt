@@ -4,7 +4,6 @@ ghost use Prim.Native.Nat.{_<_};
 ghost use Rattle.heap.specs.Checked.{header};
 ghost use Rattle.heap.specs.Storage.{wordIn, byteIn, numberIn, wordInto, byteInto, numberInto};
 ghost use Rattle.cells.specs.View.{attemptOf, leaves, Unchanged};
-
 use bytecode::stop::Stop;
 use heap::Cell;
 
@@ -28,10 +27,8 @@ pub(crate) fn read_word(c: &Cell, i: usize) -> Result<u32, Stop>
     requires { ⌜ i < 5 ⌝ }
     ensures { λ x. ⌜ attemptOf x ≡ wordIn (now (c .entry)) i ⌝ }
 {
-    if c.mark {
-        return Err(Stop::Mark);
-    }
-    Ok(u32::from_be_bytes([c.bytes[i], c.bytes[i + 1], c.bytes[i + 2], c.bytes[i + 3]]))
+    let word = u32::from_be_bytes([c.bytes[i], c.bytes[i + 1], c.bytes[i + 2], c.bytes[i + 3]]);
+    if c.mark { Err(Stop::Mark) } else { Ok(word) }
 }
 
 pub(crate) fn read_byte(c: &Cell, i: usize) -> Result<u32, Stop>
@@ -39,22 +36,21 @@ pub(crate) fn read_byte(c: &Cell, i: usize) -> Result<u32, Stop>
     ensures { λ x. ⌜ attemptOf x ≡ byteIn (now (c .entry)) i ⌝ }
 {
     if c.mark {
-        return Err(Stop::Mark);
+        Err(Stop::Mark)
+    } else {
+        Ok(c.bytes[i] as u32)
     }
-    Ok(c.bytes[i] as u32)
 }
 
 pub(crate) fn read_number(c: &Cell) -> Result<u64, Stop>
     ensures { λ x. ⌜ attemptOf x ≡ numberIn (now (c .entry)) ⌝ }
 {
     let n = u64::from_be_bytes(c.bytes);
-    if c.mark {
-        return Ok(n);
+    if c.mark || n == 0 {
+        Ok(n)
+    } else {
+        Err(Stop::Mark)
     }
-    if n == 0 {
-        return Ok(0);
-    }
-    Err(Stop::Mark)
 }
 
 pub(crate) fn write_word(c: &mut Cell, i: usize, w: u32) -> Result<(), Stop>
@@ -90,10 +86,8 @@ pub(crate) fn write_number(c: &mut Cell, v: u64) -> Result<(), Stop>
     ensures value { λ x. ⌜ leaves x (now (c .exit)) ≡ numberInto (now (c .entry)) v ⌝ }
     ensures same { λ x. ⌜ Unchanged x (now (c .entry)) (now (c .exit)) ⌝ }
 {
-    if !c.mark {
-        if u64::from_be_bytes(c.bytes) != 0 {
-            return Err(Stop::Mark);
-        }
+    if !c.mark && u64::from_be_bytes(c.bytes) != 0 {
+        return Err(Stop::Mark);
     }
     c.bytes = v.to_be_bytes();
     c.mark = true;

@@ -1,14 +1,21 @@
 // The memory, and the memory instructions on it. References are numbers: 0 is null, p + 1 is text p, (b + 1) * 2^32 + o is offset o of block b.
 ghost use mathlib.Core.Path.{_≡_};
+ghost use mathlib.Core.Bool.{true};
 ghost use Prim.Native.Nat.{ℕ, _+_, _-_, _*_, _/_, _%_, _^_, _<_, _≤_};
 ghost use lib.ListN.{length, getD, set};
-ghost use Rattle.heap.specs.Storage.{Sound, Known, newSingle, newArray, arrayAt, arrayLength, addIndex, addField, locate, loadWord, loadByte, loadReference, storeWord, storeByte, storeReference, clear};
+ghost use Rattle.heap.specs.Storage.{Sound, Known, newSingle, newArray, arrayAt, arrayLength, addIndex, addField, locate, loadWord, loadByte, loadReference, storeWord, storeByte, storeReference, clear, taken, hasRoom};
 ghost use Rattle.heap.specs.Relation.{Names};
 ghost use Rattle.cells.specs.View.{storageOf, attemptOf, leaves, allocates, Unchanged, Within};
-
+use crate::content::array_header;
+use crate::content::read_byte;
+use crate::content::read_number;
+use crate::content::read_word;
+use crate::content::write_byte;
+use crate::content::write_number;
+use crate::content::write_word;
 use bytecode::stop::Stop;
-use crate::content::{array_header, read_byte, read_number, read_word, write_byte, write_number, write_word};
-use heap::{BlockRecord, Cell};
+use heap::BlockRecord;
+use heap::Cell;
 
 /// How many numbers each block's references have.
 const OFFSETS: u64 = 4294967296;
@@ -29,7 +36,12 @@ impl<'a> Memory<'a> {
         ensures value { λ r. ⌜ storageOf r ≡ record { cells = now (cells .entry); used = 0; records = now (records .entry); count = 0 } ⌝ }
         ensures sound { λ r. ⌜ Sound (storageOf r) ⌝ }
     {
-        Memory { cells, used: 0, records, count: 0 }
+        Memory {
+            cells,
+            used: 0,
+            records,
+            count: 0,
+        }
     }
 
     /// The record of an array, from a reference to its offset 0.
@@ -199,6 +211,30 @@ impl<'a> Memory<'a> {
         write_number(&mut self.cells[j], v)
     }
 
+    /// Whether there are `need` more cells, and one more block record.
+    fn has_room(&self, need: usize) -> bool
+        requires sound { ⌜ Sound (storageOf (now self)) ⌝ }
+        requires small { ⌜ need < 2 ^ 40 ⌝ }
+        ensures { λ b. ⌜ b ≡ hasRoom (storageOf (now (self .entry))) need ⌝ }
+    {
+        self.used + need <= self.cells.len() && self.count < self.records.len()
+    }
+
+    /// Takes the next `need` cells, made zero, and the next block record; answers the number of the new block's reference.
+    fn take(&mut self, need: usize, block: BlockRecord) -> u64
+        requires sound { ⌜ Sound (storageOf (now self)) ⌝ }
+        requires room { ⌜ hasRoom (storageOf (now self)) need ≡ true ⌝ }
+        ensures value { λ r. ⌜ r ≡ (now (self .entry) .count + 1) * 2 ^ 32 ⌝ }
+        ensures after { λ _. ⌜ storageOf (now (self .exit)) ≡ taken (storageOf (now (self .entry))) need block ⌝ }
+    {
+        let at = self.used;
+        clear_cells(self.cells, at, need);
+        self.records[self.count] = block;
+        self.used = at + need;
+        self.count += 1;
+        self.count as u64 * OFFSETS
+    }
+
     /// new
     pub fn new_single(&mut self, s: u8) -> Result<u64, Stop>
         requires sound { ⌜ Sound (storageOf (now self)) ⌝ }
@@ -208,18 +244,20 @@ impl<'a> Memory<'a> {
         ensures named { λ x. ⌜ Names (now (self .exit) .count) (attemptOf x) ⌝ }
     {
         let need = (s as usize + 7) / 8;
-        if self.used + need > self.cells.len() {
+        if !self.has_room(need) {
             return Err(Stop::Cells);
         }
-        if self.count >= self.records.len() {
-            return Err(Stop::Cells);
-        }
-        let at = self.used;
-        clear_cells(self.cells, at, need);
-        self.records[self.count] = BlockRecord { start: at as u32, from: 0, end: s as u32, count: 0, size: s };
-        self.used = at + need;
-        self.count += 1;
-        Ok(self.count as u64 * OFFSETS)
+        let start = self.used as u32;
+        Ok(self.take(
+            need,
+            BlockRecord {
+                start,
+                from: 0,
+                end: s as u32,
+                count: 0,
+                size: s,
+            },
+        ))
     }
 
     /// newarray
@@ -235,19 +273,25 @@ impl<'a> Memory<'a> {
         }
         let end = 8 + n as usize * s as usize;
         let need = (end + 7) / 8;
-        if self.used + need > self.cells.len() {
-            return Err(Stop::Cells);
-        }
-        if self.count >= self.records.len() {
+        if !self.has_room(need) {
             return Err(Stop::Cells);
         }
         let at = self.used;
-        clear_cells(self.cells, at, need);
-        self.cells[at] = Cell { bytes: array_header(n, s as u32), mark: false };
-        self.records[self.count] = BlockRecord { start: at as u32, from: 8, end: end as u32, count: n, size: s };
-        self.used = at + need;
-        self.count += 1;
-        Ok(self.count as u64 * OFFSETS)
+        let r = self.take(
+            need,
+            BlockRecord {
+                start: at as u32,
+                from: 8,
+                end: end as u32,
+                count: n,
+                size: s,
+            },
+        );
+        self.cells[at] = Cell {
+            bytes: array_header(n, s as u32),
+            mark: false,
+        };
+        Ok(r)
     }
 }
 
@@ -256,6 +300,9 @@ fn clear_cells(cells: &mut [Cell], from: usize, n: usize)
     ensures { λ _. ⌜ now (cells .exit) ≡ clear (now (cells .entry)) from n ⌝ }
 {
     for i in 0..n {
-        cells[from + i] = Cell { bytes: [0; 8], mark: false };
+        cells[from + i] = Cell {
+            bytes: [0; 8],
+            mark: false,
+        };
     }
 }

@@ -24,7 +24,7 @@ record Found (how : Layout) (b o start : ℕ) (p : Spot) (j : ℕ) : Type 0 wher
   inside : o / 8 < room how
 
 within-tests : (how : Layout) (start b o k : ℕ) → 0 < k → (x y z : Bool) → ltb (dataEnd how) (o + k) ≡ y
-  → Same (Found how b o start)
+    → Same (Found how b o start)
     (cond x (stops Bounds) (cond y (stops Bounds) (cond z (gives (record { block = b; cell = o / 8; byte = o % 8 })) (stops Alignment))))
     (cond x (stops Bounds) (cond y (stops Bounds) (cond z (gives (start + o / 8)) (stops Alignment))))
 within-tests how start b o k pos true y z e = stop
@@ -39,7 +39,6 @@ within-same (single s) start b o k pos = within-tests (single s) start b o k pos
 within-same (array n s) start b o k pos = within-tests (array n s) start b o k pos (ltb o 8) (ltb (8 + n * s) (o + k)) (eqb (o % k) 0) refl
 
 module _ (h : Heap) (l : Storage) (m : Match h l) (n : ℕ) (known : Known (l .count) n) where
-
   -- the spot of a reference, and the index of the cell that its number leads to
   record Here (p : Spot) (j : ℕ) : Type 0 where
     there : p .block < l .count
@@ -51,20 +50,22 @@ module _ (h : Heap) (l : Storage) (m : Match h l) (n : ℕ) (known : Known (l .c
   reach-same k pos = go (eqb n 0) (ltb n (2 ^ 32)) refl
     where
       here : {p : Spot} {j : ℕ} → blockOf n < l .count
-        → Found (blockAt h (blockOf n) .layout) (blockOf n) (offsetOf n) (recordIn l (blockOf n) .start) p j → Here p j
+          → Found (blockAt h (blockOf n) .layout) (blockOf n) (offsetOf n) (recordIn l (blockOf n) .start) p j → Here p j
       here {p} {j} lt s =
           record {
             there = subst (λ x. x < l .count) (sym (s .in-block)) lt;
             short = subst₂ (λ x y. x < room (blockAt h y .layout)) (sym (s .in-cell)) (sym (s .in-block)) (s .inside);
             byte-is = let e = s .in-byte in omega arith;
-            index-is = s .index ∙ ap₂ (λ x y. recordIn l x .start + y) (sym (s .in-block)) (sym (s .in-cell))
+            index-is = s .index ∙ ap₂ (λ x y. recordIn l x .start + y) (sym (s .in-block)) (sym (s .in-cell));
           }
+
       widen : {x : Attempt Spot} {y : Attempt ℕ} → blockOf n < l .count
-        → Same (Found (blockAt h (blockOf n) .layout) (blockOf n) (offsetOf n) (recordIn l (blockOf n) .start)) x y → Same Here x y
+          → Same (Found (blockAt h (blockOf n) .layout) (blockOf n) (offsetOf n) (recordIn l (blockOf n) .start)) x y → Same Here x y
       widen lt (give r) = give (here lt r)
       widen lt stop = stop
+
       go : (e f : Bool) → ltb n (2 ^ 32) ≡ f
-        → Same Here (reach h (cond e null (cond f (text (n - 1)) (block (blockOf n) (offsetOf n)))) k)
+          → Same Here (reach h (cond e null (cond f (text (n - 1)) (block (blockOf n) (offsetOf n)))) k)
           (cond e (stops Null) (cond f (stops Text) (locateIn (recordIn l (blockOf n)) (offsetOf n) k)))
       go true f q = stop
       go false true q = stop
@@ -80,7 +81,7 @@ module _ (h : Heap) (l : Storage) (m : Match h l) (n : ℕ) (known : Known (l .c
       m .lies (p .block) (r .there) .same (p .cell) (r .short) ∙ ap (λ i. contentOf (cellIn l i)) (sym (r .index-is))
 
   loads : {A : Type 0} {x : Attempt Spot} {y : Attempt ℕ} (f : Spot → Attempt A) (g : ℕ → Attempt A)
-    → ((p : Spot) (j : ℕ) → Here p j → f p ≡ g j) → Same Here x y → andThen x f ≡ andThen y g
+      → ((p : Spot) (j : ℕ) → Here p j → f p ≡ g j) → Same Here x y → andThen x f ≡ andThen y g
   loads f g w (give {a} {b} r) = w a b r
   loads f g w stop = refl
 
@@ -128,12 +129,12 @@ module _ (h : Heap) (l : Storage) (m : Match h l) (n : ℕ) (known : Known (l .c
   put-same : (p : Spot) (j : ℕ) → Here p j → (o : Attempt Cell) → Puts (l .count) o → Same Match (stored h p (contents o)) (storedIn l j o)
   put-same p j r (gives c) ok =
       give (subst (λ i. Match (putAt h p (contentOf c)) (withCell l i c)) (sym (r .index-is))
-        (match-withCell h l m (p .block) (p .cell) (r .there) (r .short) c ok))
+      (match-withCell h l m (p .block) (p .cell) (r .there) (r .short) c ok))
   put-same p j r (stops e) ok = stop
 
   stores : {x : Attempt Spot} {y : Attempt ℕ} (f : Spot → Attempt Content) (g : ℕ → Attempt Cell)
-    → ((p : Spot) (j : ℕ) → Here p j → f p ≡ contents (g j)) → ((j : ℕ) → Puts (l .count) (g j)) → Same Here x y
-    → Same Match (andThen x (λ p. stored h p (f p))) (andThen y (λ j. storedIn l j (g j)))
+      → ((p : Spot) (j : ℕ) → Here p j → f p ≡ contents (g j)) → ((j : ℕ) → Puts (l .count) (g j)) → Same Here x y
+      → Same Match (andThen x (λ p. stored h p (f p))) (andThen y (λ j. storedIn l j (g j)))
   stores f g w k (give {a} {b} r) =
       subst (λ o. Same Match (stored h a o) (storedIn l b (g b))) (sym (w a b r)) (put-same a b r (g b) (k b))
   stores f g w k stop = stop

@@ -28,11 +28,13 @@ module _ (h : Heap) (l : Storage) (m : Match h l) (n : ℕ) (known : Known (l .c
       counts : (t : Bool) (r : BlockRecord) → cond t (gives (r .count)) (stops Array) ≡ andThen (cond t (gives r) (stops Array)) (λ (x : BlockRecord). gives (x .count))
       counts true r = refl
       counts false r = refl
+
       inner : (how : Layout) (start : ℕ) → lengthOf how (offsetOf n) ≡ andThen (arrayOf (recordOf start how)) (λ (x : BlockRecord). gives (x .count))
       inner (single s) start = refl
       inner (array k s) start = counts (eqb (offsetOf n) 0) (recordOf start (array k s))
+
       go : (e f : Bool) → ltb n (2 ^ 32) ≡ f → arraylength h (bySorts e f)
-        ≡ andThen (cond e (stops Null) (cond f (stops Array) (arrayOf (recordIn l (blockOf n))))) (λ (x : BlockRecord). gives (x .count))
+          ≡ andThen (cond e (stops Null) (cond f (stops Array) (arrayOf (recordIn l (blockOf n))))) (λ (x : BlockRecord). gives (x .count))
       go true f q = refl
       go false true q = refl
       go false false q =
@@ -56,18 +58,20 @@ module _ (h : Heap) (l : Storage) (m : Match h l) (n : ℕ) (known : Known (l .c
   aaddf-same f = go (eqb n 0) (ltb n (2 ^ 32)) refl
     where
       inner : (how : Layout) → 2 ^ 32 ≤ n → dataEnd how < 2 ^ 32 → (t : Bool) → leb (offsetOf n + f) (dataEnd how) ≡ t
-        → (cond t (gives (block (blockOf n) (offsetOf n + f))) (stops Bounds) ≡ references (cond t (gives (n + f)) (stops Bounds)))
+          → (cond t (gives (block (blockOf n) (offsetOf n + f))) (stops Bounds) ≡ references (cond t (gives (n + f)) (stops Bounds)))
           × Names (l .count) (cond t (gives (n + f)) (stops Bounds))
       inner how big low true e =
           let x = leb-true (offsetOf n + f) (dataEnd how) e in
           let y = moved f big (omega arith) in (ap gives (sym (y .0)), y .1)
       inner how big low false e = (refl, tt)
+
       end-is : (how : Layout) (start : ℕ) → dataEnd how ≡ recordOf start how .end
       end-is (single s) start = refl
       end-is (array k s) start = refl
+
       go : (e g : Bool) → ltb n (2 ^ 32) ≡ g
-        → (aaddf h (bySorts e g) f
-            ≡ references (cond e (stops Null) (cond g (stops Text) (cond (leb (offsetOf n + f) (recordIn l (blockOf n) .end)) (gives (n + f)) (stops Bounds)))))
+          → (aaddf h (bySorts e g) f
+          ≡ references (cond e (stops Null) (cond g (stops Text) (cond (leb (offsetOf n + f) (recordIn l (blockOf n) .end)) (gives (n + f)) (stops Bounds)))))
           × Names (l .count) (cond e (stops Null) (cond g (stops Text) (cond (leb (offsetOf n + f) (recordIn l (blockOf n) .end)) (gives (n + f)) (stops Bounds))))
       go true g q = (refl, tt)
       go false true q = (refl, tt)
@@ -77,11 +81,11 @@ module _ (h : Heap) (l : Storage) (m : Match h l) (n : ℕ) (known : Known (l .c
           let lt = known big in
           let how = blockAt h b .layout in
           let e : dataEnd how ≡ recordIn l b .end
-            = end-is how (recordIn l b .start) ∙ ap (λ (r : BlockRecord). r .end) (sym (m .lies b lt .record-is)) in
+          = end-is how (recordIn l b .start) ∙ ap (λ (r : BlockRecord). r .end) (sym (m .lies b lt .record-is)) in
           subst (λ x.
-            (cond (leb (offsetOf n + f) (dataEnd how)) (gives (block b (offsetOf n + f))) (stops Bounds)
-              ≡ references (cond (leb (offsetOf n + f) x) (gives (n + f)) (stops Bounds)))
-            × Names (l .count) (cond (leb (offsetOf n + f) x) (gives (n + f)) (stops Bounds))) e
+          (cond (leb (offsetOf n + f) (dataEnd how)) (gives (block b (offsetOf n + f))) (stops Bounds)
+          ≡ references (cond (leb (offsetOf n + f) x) (gives (n + f)) (stops Bounds)))
+          × Names (l .count) (cond (leb (offsetOf n + f) x) (gives (n + f)) (stops Bounds))) e
           (inner how big (ends-low b lt) (leb (offsetOf n + f) (dataEnd how)) refl)
 
   -- the address of element i, from an array's record
@@ -92,11 +96,11 @@ module _ (h : Heap) (l : Storage) (m : Match h l) (n : ℕ) (known : Known (l .c
   aadds-same i = go (eqb n 0) (ltb n (2 ^ 32)) refl
     where
       step : (start k s : ℕ) → 2 ^ 32 ≤ n → 8 + k * s < 2 ^ 32 → (t u : Bool) → eqb (offsetOf n) 0 ≡ t → ltb i k ≡ u
-        → (cond t (cond u (gives (block (blockOf n) (8 + i * s))) (stops Bounds)) (stops Array)
-            ≡ references (andThen (cond t (gives (recordOf start (array k s))) (stops Array))
-              (λ (r : BlockRecord). cond u (gives (n + (8 + i * r .size))) (stops Bounds))))
+          → (cond t (cond u (gives (block (blockOf n) (8 + i * s))) (stops Bounds)) (stops Array)
+          ≡ references (andThen (cond t (gives (recordOf start (array k s))) (stops Array))
+          (λ (r : BlockRecord). cond u (gives (n + (8 + i * r .size))) (stops Bounds))))
           × Names (l .count) (andThen (cond t (gives (recordOf start (array k s))) (stops Array))
-              (λ (r : BlockRecord). cond u (gives (n + (8 + i * r .size))) (stops Bounds)))
+          (λ (r : BlockRecord). cond u (gives (n + (8 + i * r .size))) (stops Bounds)))
       step start k s big low false u p q = (refl, tt)
       step start k s big low true false p q = (refl, tt)
       step start k s big low true true p q =
@@ -107,20 +111,23 @@ module _ (h : Heap) (l : Storage) (m : Match h l) (n : ℕ) (known : Known (l .c
           let y = moved (8 + i * s) big (omega arith) in
           let e : offsetOf n + (8 + i * s) ≡ 8 + i * s = omega arith in
           (ap gives (ap (block (blockOf n)) (sym e) ∙ sym (y .0)), y .1)
+
       tested : (start k s : ℕ) (t : Bool)
-        → andThen (cond t (gives (recordOf start (array k s))) (stops Array)) (λ (r : BlockRecord). cond (ltb i k) (gives (n + (8 + i * r .size))) (stops Bounds))
+          → andThen (cond t (gives (recordOf start (array k s))) (stops Array)) (λ (r : BlockRecord). cond (ltb i k) (gives (n + (8 + i * r .size))) (stops Bounds))
           ≡ andThen (cond t (gives (recordOf start (array k s))) (stops Array)) (elementOf i)
       tested start k s true = refl
       tested start k s false = refl
+
       inner : (how : Layout) (start : ℕ) → 2 ^ 32 ≤ n → dataEnd how < 2 ^ 32
-        → (element how (blockOf n) (offsetOf n) i ≡ references (andThen (arrayOf (recordOf start how)) (elementOf i)))
+          → (element how (blockOf n) (offsetOf n) i ≡ references (andThen (arrayOf (recordOf start how)) (elementOf i)))
           × Names (l .count) (andThen (arrayOf (recordOf start how)) (elementOf i))
       inner (single s) start big low = (refl, tt)
       inner (array k s) start big low =
           subst (λ x. (element (array k s) (blockOf n) (offsetOf n) i ≡ references x) × Names (l .count) x) (tested start k s (eqb (offsetOf n) 0))
           (step start k s big low (eqb (offsetOf n) 0) (ltb i k) refl refl)
+
       go : (e g : Bool) → ltb n (2 ^ 32) ≡ g
-        → (aadds h (bySorts e g) i ≡ references (andThen (cond e (stops Null) (cond g (stops Array) (arrayOf (recordIn l (blockOf n))))) (elementOf i)))
+          → (aadds h (bySorts e g) i ≡ references (andThen (cond e (stops Null) (cond g (stops Array) (arrayOf (recordIn l (blockOf n))))) (elementOf i)))
           × Names (l .count) (andThen (cond e (stops Null) (cond g (stops Array) (arrayOf (recordIn l (blockOf n))))) (elementOf i))
       go true g q = (refl, tt)
       go false true q = (refl, tt)

@@ -29,7 +29,7 @@ clear-in mem i zero j h k f = absurd (let z : ⊥ = omega arith in z)
 clear-in mem i (suc n) j h k f = go (clear-in (set mem i (unmarked zeros)) (suc i) n j) (eqb j i) refl
   where
     go : (suc i ≤ j → j < suc i + n → suc i + n ≤ length (set mem i (unmarked zeros)) → getD (clear (set mem i (unmarked zeros)) (suc i) n) j noCell ≡ unmarked zeros)
-      → (t : Bool) → eqb j i ≡ t → getD (clear (set mem i (unmarked zeros)) (suc i) n) j noCell ≡ unmarked zeros
+        → (t : Bool) → eqb j i ≡ t → getD (clear (set mem i (unmarked zeros)) (suc i) n) j noCell ≡ unmarked zeros
     go more true e =
         let q = eqb-true j i e in
         let w : i < length mem = omega arith in
@@ -66,14 +66,14 @@ abbrev pub Unmarked : Cell → Content → Type 0
 Unmarked c x = (x ≡ contentOf c) × (c .mark ≡ false)
 
 pub laid-in : (mem : List Cell) (i : ℕ) (how : Layout) (j : ℕ) → j < room how → i + room how ≤ length mem
-  → Unmarked (getD (laid mem i how) (i + j) noCell) (getD (fresh how) j (plain zeros))
+    → Unmarked (getD (laid mem i how) (i + j) noCell) (getD (fresh how) j (plain zeros))
 laid-in mem i (single s) j h f =
     let e = clear-in mem i (room (single s)) (i + j) (omega arith) (omega arith) f in
     (zeros-everywhere (room (single s)) j ∙ ap contentOf (sym e), ap (λ (c : Cell). c .mark) e)
 laid-in mem i (array n s) j h f = go (eqb j 0) refl
   where
     go : (t : Bool) → eqb j 0 ≡ t
-      → Unmarked (getD (set (clear mem i (room (array n s))) i (unmarked (header n s))) (i + j) noCell)
+        → Unmarked (getD (set (clear mem i (room (array n s))) i (unmarked (header n s))) (i + j) noCell)
         (getD (set (replicate (room (array n s)) (plain zeros)) 0 (plain (header n s))) j (plain zeros))
     go true q =
         let z = eqb-true j 0 q in
@@ -83,17 +83,19 @@ laid-in mem i (array n s) j h f = go (eqb j 0) refl
         let u : i < length (clear mem i (room (array n s))) = omega arith in
         let v : 0 < length (replicate (room (array n s)) (plain zeros)) = omega arith in
         let e : getD (set (clear mem i (room (array n s))) i (unmarked (header n s))) (i + j) noCell ≡ unmarked (header n s)
-          = ap (λ x. getD (set (clear mem i (room (array n s))) i (unmarked (header n s))) x noCell) k
-            ∙ getD-set-same (clear mem i (room (array n s))) i (unmarked (header n s)) noCell u in
-        (ap (λ x. getD (set (replicate (room (array n s)) (plain zeros)) 0 (plain (header n s))) x (plain zeros)) z
-          ∙ getD-set-same (replicate (room (array n s)) (plain zeros)) 0 (plain (header n s)) (plain zeros) v ∙ ap contentOf (sym e),
-          ap (λ (c : Cell). c .mark) e)
+        = ap (λ x. getD (set (clear mem i (room (array n s))) i (unmarked (header n s))) x noCell) k
+        ∙ getD-set-same (clear mem i (room (array n s))) i (unmarked (header n s)) noCell u in (
+          ap (λ x. getD (set (replicate (room (array n s)) (plain zeros)) 0 (plain (header n s))) x (plain zeros)) z
+              ∙ getD-set-same (replicate (room (array n s)) (plain zeros)) 0 (plain (header n s)) (plain zeros) v ∙ ap contentOf (sym e),
+          ap (λ (c : Cell). c .mark) e,
+        )
     go false q =
         let z = eqb-false j 0 q in
         let ne : i + j ≢ i = λ x. z (omega arith) in
         let e : getD (set (clear mem i (room (array n s))) i (unmarked (header n s))) (i + j) noCell ≡ unmarked zeros
-          = getD-set-other (clear mem i (room (array n s))) i (i + j) (unmarked (header n s)) noCell ne
-            ∙ clear-in mem i (room (array n s)) (i + j) (omega arith) (omega arith) f in
-        (getD-set-other (replicate (room (array n s)) (plain zeros)) 0 j (plain (header n s)) (plain zeros) z
-          ∙ zeros-everywhere (room (array n s)) j ∙ ap contentOf (sym e),
-          ap (λ (c : Cell). c .mark) e)
+        = getD-set-other (clear mem i (room (array n s))) i (i + j) (unmarked (header n s)) noCell ne
+        ∙ clear-in mem i (room (array n s)) (i + j) (omega arith) (omega arith) f in (
+          getD-set-other (replicate (room (array n s)) (plain zeros)) 0 j (plain (header n s)) (plain zeros) z
+              ∙ zeros-everywhere (room (array n s)) j ∙ ap contentOf (sym e),
+          ap (λ (c : Cell). c .mark) e,
+        )

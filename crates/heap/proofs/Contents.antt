@@ -38,9 +38,10 @@ null-or-stop false = refl
 pub readReference-contentOf : (c : Cell) → readReference (contentOf c) ≡ references (numberIn c)
 readReference-contentOf c =
     elim (c .mark) as (λ m. readReference (heldBy c m)
-      ≡ references (cond m (gives (fromBytes (c .bytes))) (cond (eqb (fromBytes (c .bytes)) 0) (gives 0) (stops Mark))))
-    [ true ↦ refl
-    | false ↦ ap (λ b. cond b (gives null) (stops Mark)) (sym (fromBytes-zero (c .bytes))) ∙ null-or-stop (eqb (fromBytes (c .bytes)) 0) ]
+    ≡ references (cond m (gives (fromBytes (c .bytes))) (cond (eqb (fromBytes (c .bytes)) 0) (gives 0) (stops Mark)))) [
+      | true ↦ refl
+      | false ↦ ap (λ b. cond b (gives null) (stops Mark)) (sym (fromBytes-zero (c .bytes))) ∙ null-or-stop (eqb (fromBytes (c .bytes)) 0)
+    ]
 
 pub writeWord-contentOf : (c : Cell) (i w : ℕ) → writeWord (contentOf c) i w ≡ contents (wordInto c i w)
 writeWord-contentOf c i w =
@@ -63,7 +64,8 @@ module _ (v : ℕ) (small : v < 2 ^ 64) where
   pub writeReference-contentOf : (c : Cell) → writeReference (contentOf c) (referenceOf v) ≡ contents (numberInto c v)
   writeReference-contentOf c =
       elim (c .mark) as (λ m. writeReference (heldBy c m) (referenceOf v)
-        ≡ contents (cond m (gives (holding v)) (cond (eqb (fromBytes (c .bytes)) 0) (gives (holding v)) (stops Mark))))
-      [ true ↦ contentOf-holding
-      | false ↦ ap (λ b. cond b (gives (marked (referenceOf v))) (stops Mark)) (sym (fromBytes-zero (c .bytes)))
-          ∙ held-or-stop (eqb (fromBytes (c .bytes)) 0) ]
+      ≡ contents (cond m (gives (holding v)) (cond (eqb (fromBytes (c .bytes)) 0) (gives (holding v)) (stops Mark)))) [
+        | true ↦ contentOf-holding
+        | false ↦ ap (λ b. cond b (gives (marked (referenceOf v))) (stops Mark)) (sym (fromBytes-zero (c .bytes)))
+            ∙ held-or-stop (eqb (fromBytes (c .bytes)) 0)
+      ]

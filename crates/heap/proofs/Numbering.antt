@@ -21,7 +21,7 @@ pub numberOf-referenceOf : (n : ℕ) → numberOf (referenceOf n) ≡ n
 numberOf-referenceOf n = go (eqb n 0) (ltb n (2 ^ 32)) refl refl
   where
     go : (e f : Bool) → eqb n 0 ≡ e → ltb n (2 ^ 32) ≡ f
-      → numberOf (cond e null (cond f (text (n - 1)) (block (blockOf n) (offsetOf n)))) ≡ n
+        → numberOf (cond e null (cond f (text (n - 1)) (block (blockOf n) (offsetOf n)))) ≡ n
     go true f p q = sym (eqb-true n 0 p)
     go false true p q = let z = eqb-false n 0 p in omega arith
     go false false p q = let h = ltb-false n (2 ^ 32) q in omega arith

@@ -28,7 +28,7 @@ start-recordOf (single s) i = refl
 start-recordOf (array n s) i = refl
 
 module _ (h : Heap) (l : Storage) (m : Match h l) (how : Layout)
-  (fits : l .used + room how ≤ length (l .cells)) (free : l .count < length (l .records)) where
+    (fits : l .used + room how ≤ length (l .cells)) (free : l .count < length (l .records)) where
   abbrev after : Heap
   after = h ++ (freshBlock how ∷ [])
 
@@ -54,9 +54,13 @@ module _ (h : Heap) (l : Storage) (m : Match h l) (how : Layout)
   old-lies b lt =
       let d = m .lies b lt in
       subst₂ (Lies (built .cells) (built .used)) (sym (old-record b lt)) (sym (old-block b lt))
-      (record { record-is = d .record-is; size = d .size; ends = let e = d .ends in omega arith;
+      (record {
+        record-is = d .record-is;
+        size = d .size;
+        ends = let e = d .ends in omega arith;
         same = λ j w. d .same j w
-          ∙ ap contentOf (sym (laid-below (l .cells) (l .used) how (recordIn l b .start + j) (let e = d .ends in omega arith))) })
+            ∙ ap contentOf (sym (laid-below (l .cells) (l .used) how (recordIn l b .start + j) (let e = d .ends in omega arith)));
+      })
 
   new-lies : Lies (built .cells) (built .used) (recordIn built (l .count)) (blockAt after (l .count))
   new-lies =
@@ -66,7 +70,8 @@ module _ (h : Heap) (l : Storage) (m : Match h l) (how : Layout)
         size = length-fresh how;
         ends = let e = start-recordOf how (l .used) in omega arith;
         same = λ j w. laid-in (l .cells) (l .used) how j w fits .0
-          ∙ ap (λ i. contentOf (getD (built .cells) (i + j) noCell)) (sym (start-recordOf how (l .used))) })
+            ∙ ap (λ i. contentOf (getD (built .cells) (i + j) noCell)) (sym (start-recordOf how (l .used)));
+      })
 
   -- a number below count + 1 is an old block's or the new one's
   old-or-new : (P : ℕ → Type 0) → ((b : ℕ) → b < l .count → P b) → P (l .count) → (b : ℕ) → b < l .count + 1 → P b
@@ -85,7 +90,7 @@ module _ (h : Heap) (l : Storage) (m : Match h l) (how : Layout)
   new-apart : (b : ℕ) → b < l .count → recordIn built b .start + room (blockAt after b .layout) ≤ recordIn built (l .count) .start
   new-apart b bl =
       subst₂ (λ (x : BlockRecord) (y : Block). x .start + room (y .layout) ≤ recordIn built (l .count) .start)
-        (sym (old-record b bl)) (sym (old-block b bl))
+      (sym (old-record b bl)) (sym (old-block b bl))
       (subst (λ x. recordIn l b .start + room (blockAt h b .layout) ≤ x) (sym new-start) (m .lies b bl .ends))
 
   match-placed : Match after built
@@ -96,8 +101,8 @@ module _ (h : Heap) (l : Storage) (m : Match h l) (how : Layout)
         all = let e = total-append h (freshBlock how) in let f = length-fresh how in let g = m .all in omega arith;
         lies = old-or-new (λ b. Lies (built .cells) (built .used) (recordIn built b) (blockAt after b)) old-lies new-lies;
         apart = λ b c bc cl.
-          old-or-new (λ x. b < x → recordIn built b .start + room (blockAt after b .layout) ≤ recordIn built x .start)
-          (λ x xl bx. old-apart b x bx xl) (λ bx. new-apart b bx) c cl bc
+            old-or-new (λ x. b < x → recordIn built b .start + room (blockAt after b .layout) ≤ recordIn built x .start)
+            (λ x xl bx. old-apart b x bx xl) (λ bx. new-apart b bx) c cl bc;
       }
 
   pub allocated-placed : Allocated (record { heap = after; reference = block (length h) 0 }) (record { storage = built; number = (l .count + 1) * 2 ^ 32 })
@@ -105,25 +110,25 @@ module _ (h : Heap) (l : Storage) (m : Match h l) (how : Layout)
       record {
         match = match-placed;
         same =
-          let e : (l .count + 1) * 2 ^ 32 ≡ (l .count + 1) * 2 ^ 32 + 0 = omega arith in
-          ap (λ b. block b 0) (m .blocks) ∙ sym (referenceOf-block (l .count) 0 (omega arith)) ∙ ap referenceOf (sym e);
-        known = λ _. omega arith
+            let e : (l .count + 1) * 2 ^ 32 ≡ (l .count + 1) * 2 ^ 32 + 0 = omega arith in
+            ap (λ b. block b 0) (m .blocks) ∙ sym (referenceOf-block (l .count) 0 (omega arith)) ∙ ap referenceOf (sym e);
+        known = λ _. omega arith;
       }
 
 module _ (h : Heap) (l : Storage) (m : Match h l) where
   pub allocate-same : (how : Layout) → Same Allocated (allocate (length (l .cells)) (length (l .records)) h how) (place l how)
   allocate-same how =
       subst₂ (λ x y. Same Allocated
-        (cond (leb (x + room how) (length (l .cells)))
-          (cond (ltb y (length (l .records))) (gives (record { heap = h ++ (freshBlock how ∷ []); reference = block (length h) 0 })) (stops Cells))
-          (stops Cells))
-        (place l how)) (sym (m .all)) (sym (m .blocks))
+      (cond (leb (x + room how) (length (l .cells)))
+      (cond (ltb y (length (l .records))) (gives (record { heap = h ++ (freshBlock how ∷ []); reference = block (length h) 0 })) (stops Cells))
+      (stops Cells))
+      (place l how)) (sym (m .all)) (sym (m .blocks))
       (go (leb (l .used + room how) (length (l .cells))) (ltb (l .count) (length (l .records))) refl refl)
     where
       go : (t u : Bool) → leb (l .used + room how) (length (l .cells)) ≡ t → ltb (l .count) (length (l .records)) ≡ u
-        → Same Allocated
+          → Same Allocated
           (cond t (cond u (gives (record { heap = h ++ (freshBlock how ∷ []); reference = block (length h) 0 })) (stops Cells)) (stops Cells))
-          (cond t (cond u (gives (record { storage = placed l how; number = (l .count + 1) * 2 ^ 32 })) (stops Cells)) (stops Cells))
+          (cond (cond t u false) (gives (record { storage = placed l how; number = (l .count + 1) * 2 ^ 32 })) (stops Cells))
       go true true e f =
           give (allocated-placed h l m how (leb-true (l .used + room how) (length (l .cells)) e) (ltb-true (l .count) (length (l .records)) f))
       go true false e f = stop
@@ -133,6 +138,6 @@ module _ (h : Heap) (l : Storage) (m : Match h l) where
   newarray-same s n = go (ltb n (2 ^ 31))
     where
       go : (t : Bool)
-        → Same Allocated (cond t (allocate (length (l .cells)) (length (l .records)) h (array n s)) (stops Length)) (cond t (place l (array n s)) (stops Length))
+          → Same Allocated (cond t (allocate (length (l .cells)) (length (l .records)) h (array n s)) (stops Length)) (cond t (place l (array n s)) (stops Length))
       go true = allocate-same (array n s)
       go false = stop

@@ -21,9 +21,12 @@ use Rattle.heap.proofs.Clearing.{length-laid, laid-below, laid-in}
 pub sound-empty : (l : Storage) → l .used ≡ 0 → l .count ≡ 0 → length (l .cells) < 2 ^ 28 → length (l .records) < 2 ^ 31 → Sound l
 sound-empty l u c k r =
     record {
-      cells-fit = omega arith; records-fit = omega arith; few-cells = k; few-records = r;
+      cells-fit = omega arith;
+      records-fit = omega arith;
+      few-cells = k;
+      few-records = r;
       bounded = λ b w. absurd (let f : ⊥ = omega arith in f);
-      names = λ j w. absurd (let f : ⊥ = omega arith in f)
+      names = λ j w. absurd (let f : ⊥ = omega arith in f);
     }
 
 -- a marked cell's number names a block that there is
@@ -33,8 +36,13 @@ Naming count c = c .mark ≡ true → Known count (fromBytes (c .bytes))
 pub sound-withCell : (l : Storage) (j : ℕ) (c : Cell) → Sound l → Naming (l .count) c → Sound (withCell l j c)
 sound-withCell l j c s ok =
     record {
-      cells-fit = rw length-set (s .cells-fit); records-fit = s .records-fit; few-cells = rw length-set (s .few-cells);
-      few-records = s .few-records; bounded = s .bounded; names = λ i w. go i w (eqb i j) refl }
+      cells-fit = rw length-set (s .cells-fit);
+      records-fit = s .records-fit;
+      few-cells = rw length-set (s .few-cells);
+      few-records = s .few-records;
+      bounded = s .bounded;
+      names = λ i w. go i w (eqb i j) refl;
+    }
   where
     go : (i : ℕ) → i < l .used → (t : Bool) → eqb i j ≡ t → Naming (l .count) (getD (set (l .cells) j c) i noCell)
     go i w true p =
@@ -122,5 +130,5 @@ module _ (l : Storage) (how : Layout) (s : Sound l) (fits : l .used + room how �
         few-cells = let e = length-laid (l .cells) (l .used) how in let f = s .few-cells in omega arith;
         few-records = rw length-set (s .few-records);
         bounded = λ b w. bounded-placed b w (ltb b (l .count)) refl;
-        names = λ j w. names-placed j w (ltb j (l .used)) refl
+        names = λ j w. names-placed j w (ltb j (l .used)) refl;
       }

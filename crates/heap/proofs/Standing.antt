@@ -17,9 +17,11 @@ use Rattle.heap.proofs.Addresses.{arraylength-same, aadds-same, aaddf-same}
 match-empty : (l : Storage) → l .used ≡ 0 → l .count ≡ 0 → length (l .cells) < 2 ^ 28 → length (l .records) < 2 ^ 31 → Match [] l
 match-empty l u c k r =
     record {
-      sound = sound-empty l u c k r; blocks = sym c; all = sym u;
+      sound = sound-empty l u c k r;
+      blocks = sym c;
+      all = sym u;
       lies = λ b w. absurd (let f : ⊥ = omega arith in f);
-      apart = λ b x bx w. absurd (let f : ⊥ = omega arith in f)
+      apart = λ b x bx w. absurd (let f : ⊥ = omega arith in f);
     }
 
 pub stands : Stands
@@ -28,10 +30,16 @@ stands =
       begins = match-empty;
       allocates = λ h l m. record { news = λ s. allocate-same h l m (single s); newarrays = newarray-same h l m };
       answers = λ h l m n k.
-        record {
-          arraylengths = arraylength-same h l m n k; aaddss = aadds-same h l m n k; aaddfs = aaddf-same h l m n k;
-          imloads = imload-same h l m n k; cmloads = cmload-same h l m n k; amloads = (amload-same h l m n k, amload-names h l m n k);
-          imstores = imstore-same h l m n k; cmstores = cmstore-same h l m n k; amstores = amstore-same h l m n k
-        };
-      numbers = numberOf-referenceOf
+          record {
+            arraylengths = arraylength-same h l m n k;
+            aaddss = aadds-same h l m n k;
+            aaddfs = aaddf-same h l m n k;
+            imloads = imload-same h l m n k;
+            cmloads = cmload-same h l m n k;
+            amloads = (amload-same h l m n k, amload-names h l m n k);
+            imstores = imstore-same h l m n k;
+            cmstores = cmstore-same h l m n k;
+            amstores = amstore-same h l m n k;
+          };
+      numbers = numberOf-referenceOf;
     }

@@ -22,8 +22,7 @@ total-set (y ∷ h) zero x e lt = ap (λ n. n + total h) e
 total-set (y ∷ h) (suc b) x e lt = ap (λ n. length (y .cells) + n) (total-set h b x e (omega arith))
 
 module _ (h : Heap) (l : Storage) (m : Match h l) (b j : ℕ) (lt : b < l .count) (short : j < room (blockAt h b .layout))
-  (c : Cell) (ok : Naming (l .count) c) where
-
+    (c : Cell) (ok : Naming (l .count) c) where
   abbrev block : Block
   block = record { layout = blockAt h b .layout; cells = set (blockAt h b .cells) j (contentOf c) }
 
@@ -58,7 +57,7 @@ module _ (h : Heap) (l : Storage) (m : Match h l) (b j : ℕ) (lt : b < l .count
       record { record-is = d .record-is; size = length-set (blockAt h b .cells) j (contentOf c) ∙ d .size; ends = d .ends; same = λ i w. go i w (eqb i j) refl }
     where
       go : (i : ℕ) → i < room (blockAt h b .layout) → (e : Bool) → eqb i j ≡ e
-        → getD (set (blockAt h b .cells) j (contentOf c)) i (plain zeros) ≡ contentOf (getD mem (recordIn l b .start + i) noCell)
+          → getD (set (blockAt h b .cells) j (contentOf c)) i (plain zeros) ≡ contentOf (getD mem (recordIn l b .start + i) noCell)
       go i w true p =
           let e = eqb-true i j p in
           let s = m .lies b lt .size in
@@ -92,7 +91,7 @@ module _ (h : Heap) (l : Storage) (m : Match h l) (b j : ℕ) (lt : b < l .count
         blocks = length-set h b block ∙ m .blocks;
         all = total-set h b block (length-set (blockAt h b .cells) j (contentOf c)) in-blocks ∙ m .all;
         lies = λ x w. go x w (eqb x b) refl;
-        apart = λ x y xy yl. subst (λ s. recordIn l x .start + room s ≤ recordIn l y .start) (sym (layout-same x)) (m .apart x y xy yl)
+        apart = λ x y xy yl. subst (λ s. recordIn l x .start + room s ≤ recordIn l y .start) (sym (layout-same x)) (m .apart x y xy yl);
       }
     where
       go : (x : ℕ) → x < l .count → (e : Bool) → eqb x b ≡ e → Lies mem (l .used) (recordIn l x) (blockAt (set h b block) x)
@@ -104,5 +103,9 @@ module _ (h : Heap) (l : Storage) (m : Match h l) (b j : ℕ) (lt : b < l .count
           let ne : x ≢ b = eqb-false x b p in
           let d = m .lies x w in
           subst (λ y. Lies mem (l .used) (recordIn l x) y) (sym (at-other x ne))
-          (record { record-is = d .record-is; size = d .size; ends = d .ends;
-            same = λ i v. d .same i v ∙ ap contentOf (sym (getD-set-other (l .cells) spot (recordIn l x .start + i) c noCell (away x i w ne v))) })
+          (record {
+            record-is = d .record-is;
+            size = d .size;
+            ends = d .ends;
+            same = λ i v. d .same i v ∙ ap contentOf (sym (getD-set-other (l .cells) spot (recordIn l x .start + i) c noCell (away x i w ne v)));
+          })

@@ -77,8 +77,8 @@ abbrev pub allocate : ℕ → ℕ → Heap → Layout → Attempt Allocation
 allocate cells records h how =
     cond (leb (total h + room how) cells)
     (cond (ltb (length h) records)
-      (gives (record { heap = h ++ (freshBlock how ∷ []); reference = block (length h) 0 }))
-      (stops Cells))
+    (gives (record { heap = h ++ (freshBlock how ∷ []); reference = block (length h) 0 }))
+    (stops Cells))
     (stops Cells)
 
 abbrev pub new : ℕ → ℕ → Heap → ℕ → Attempt Allocation

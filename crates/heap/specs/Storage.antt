@@ -87,8 +87,25 @@ laid mem i (array n s) = set (clear mem i (room (array n s))) i (unmarked (heade
 -- one block more, in the next cells and the next record
 abbrev pub placed : Storage → Layout → Storage
 placed l how =
-    record { cells = laid (l .cells) (l .used) how; used = l .used + room how;
-      records = set (l .records) (l .count) (recordOf (l .used) how); count = l .count + 1 }
+    record {
+      cells = laid (l .cells) (l .used) how;
+      used = l .used + room how;
+      records = set (l .records) (l .count) (recordOf (l .used) how);
+      count = l .count + 1;
+    }
+
+-- the next `need` cells made zero, and r in the next record
+abbrev pub taken : Storage → ℕ → BlockRecord → Storage
+taken l need r =
+    record {
+      cells = clear (l .cells) (l .used) need;
+      used = l .used + need;
+      records = set (l .records) (l .count) r;
+      count = l .count + 1;
+    }
+
+abbrev pub hasRoom : Storage → ℕ → Bool
+hasRoom l need = cond (leb (l .used + need) (length (l .cells))) (ltb (l .count) (length (l .records))) false
 
 -- what an allocation gives: the storage afterwards, and the new reference's number
 pub record Placement : Type 0 where
@@ -97,9 +114,7 @@ pub record Placement : Type 0 where
 
 abbrev pub place : Storage → Layout → Attempt Placement
 place l how =
-    cond (leb (l .used + room how) (length (l .cells)))
-    (cond (ltb (l .count) (length (l .records))) (gives (record { storage = placed l how; number = (l .count + 1) * 2 ^ 32 })) (stops Cells))
-    (stops Cells)
+    cond (hasRoom l (room how)) (gives (record { storage = placed l how; number = (l .count + 1) * 2 ^ 32 })) (stops Cells)
 
 abbrev pub newSingle : Storage → ℕ → Attempt Placement
 newSingle l s = place l (single s)

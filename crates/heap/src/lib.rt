@@ -1,4 +1,6 @@
 // The cells and block records that the machine's memory is made of.
+ghost use mathlib.Core.Path.{_≡_};
+ghost use mathlib.Core.Bool.{true};
 ghost use Rattle.heap.specs.Stands.{Stands};
 
 /// Eight bytes of memory. A marked cell holds the number of a reference.
@@ -20,8 +22,9 @@ pub struct BlockRecord {
 }
 
 /// Its contract is the theorem that memory kept in cells and block records is the checked machine's memory.
-pub fn memory_stands() -> u8
-    ensures { λ _. ⌜ Stands ⌝ }
+pub fn memory_stands() -> bool
+    ensures value { λ r. ⌜ r ≡ true ⌝ }
+    ensures theorem { λ _. ⌜ Stands ⌝ }
 {
-    0
+    true
 }

@@ -6,6 +6,7 @@ use borrow.Author.Needs.{needs}
 use borrow.Author.Tests.{lt-ltb}
 use Rattle.bytecode.specs.Stops.{gives, stops}
 use Rattle.bytecode.specs.declared.stop.Stop.the-variants.{Bounds}
+use Rattle.heap.specs.Storage.{arrayAt}
 use Rattle.cells.specs.View.{storageOf}
 use Rattle.cells.proofs.Stores.{andThen-gives}
 use Rattle.cells.proofs.Arrays.{arrayAt-gives, element-small, element-known}
@@ -32,6 +33,6 @@ returns c =
     let lt : c .args .i < b .count = omega arith in
     let number = c .args .r + (8 + c .args .i * b .size) in
     record {
-      value = andThen-gives _ _ _ _ is (ap (λ t. cond t (gives number) (stops Bounds)) (sym (lt-ltb (c .args .i) (b .count) lt)));
-      named = element-known (c .args .r) (l .count) (c .args .i) b a lt (c .pre .known)
+      value = andThen-gives (arrayAt l (c .args .r)) b _ (gives number) is (ap (λ t. cond t (gives number) (stops Bounds)) (sym (lt-ltb (c .args .i) (b .count) lt)));
+      named = element-known (c .args .r) (l .count) (c .args .i) b a lt (c .pre .known);
     }
