@@ -1,0 +1,9 @@
+pub mod Numbering
+pub mod Contents
+pub mod Clearing
+pub mod Soundness
+pub mod Writes
+pub mod Accesses
+pub mod Addresses
+pub mod Placing
+pub mod Standing

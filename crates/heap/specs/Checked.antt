@@ -59,6 +59,9 @@ abbrev pub fresh : Layout → List Content
 fresh (single s) = replicate (room (single s)) (plain zeros)
 fresh (array n s) = set (replicate (room (array n s)) (plain zeros)) 0 (plain (header n s))
 
+abbrev pub freshBlock : Layout → Block
+freshBlock how = record { layout = how; cells = fresh how }
+
 -- the cells of all blocks together
 abbrev pub total : Heap → ℕ
 total [] = 0
@@ -74,8 +77,8 @@ abbrev pub allocate : ℕ → ℕ → Heap → Layout → Attempt Allocation
 allocate cells records h how =
     cond (leb (total h + room how) cells)
     (cond (ltb (length h) records)
-      (gives (record { heap = h ++ (record { layout = how; cells = fresh how } ∷ []); reference = block (length h) 0 }))
-      (stops Cells))
+    (gives (record { heap = h ++ (freshBlock how ∷ []); reference = block (length h) 0 }))
+    (stops Cells))
     (stops Cells)
 
 abbrev pub new : ℕ → ℕ → Heap → ℕ → Attempt Allocation
@@ -85,9 +88,12 @@ new cells records h s = allocate cells records h (single s)
 abbrev pub newarray : ℕ → ℕ → Heap → ℕ → ℕ → Attempt Allocation
 newarray cells records h s n = cond (ltb n (2 ^ 31)) (allocate cells records h (array n s)) (stops Length)
 
--- the block of a number; a number that no block has stands for an empty block
+-- what a number stands for that no block has: a block without data
+abbrev pub noBlock : Block
+noBlock = record { layout = single 0; cells = [] }
+
 abbrev pub blockAt : Heap → ℕ → Block
-blockAt h b = getD h b (record { layout = single 0; cells = [] })
+blockAt h b = getD h b noBlock
 
 -- arraylength and aadds take a reference to an array's own offset 0
 abbrev pub lengthOf : Layout → ℕ → Attempt ℕ

@@ -1,1 +1,4 @@
 pub mod Checked
+pub mod Storage
+pub mod Relation
+pub mod Stands

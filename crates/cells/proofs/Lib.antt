@@ -1,0 +1,4 @@
+pub mod Stores
+pub mod Clears
+pub mod Arrays
+pub mod Allocations
