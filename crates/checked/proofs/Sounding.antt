@@ -6,8 +6,6 @@ use Prim.Native.Nat.{ℕ, zero, suc, _+_, _-_, _≤_, _<_}
 use native.Mathlib.Omega.{arith}
 use lib.Dec.{eqb, ltb, leb}
 use lib.IntN.{ℤ}
-use mir.Val.{ofZ}
-use mir.Syntax.{w32}
 use lib.ListN.{length, getD, set, replicate, length-set}
 use borrow.Author.Tests.{lt-ltb, ltb-true}
 use Rattle.std.specs.declared.option.Option.{Option}
@@ -22,7 +20,7 @@ use Rattle.bytecode.specs.Outcome.{Out, bad, good}
 use Rattle.bytecode.specs.Program.{Program, Function, Native, Signature}
 use Rattle.bytecode.specs.Stops.{Attempt, gives, stops}
 use Rattle.heap.specs.Checked.{Heap, Reference, null, text, block, new, newarray, arraylength, aaddf, aadds, imload, cmload, amload, imstore, cmstore, amstore}
-use Rattle.word.specs.Words.{compute, holds}
+use Rattle.word.specs.Words.{compute, holds, wrap}
 use Rattle.host.specs.Hosts.{Host, Call, Lawful, Suits, fits}
 use Rattle.host.specs.declared.call.Reply.{Reply}
 use Rattle.plan.specs.Programs.{nth, functionAt, variablesAt, noFunction}
@@ -347,7 +345,7 @@ module _ (P : Program) (plans : Plans) (ok : Accepted P plans) where
           (room-fine P plans st s _ (room-left Ref r (x .1)) (pushes Ref r (p + 3) (reference (text c)) (x .1) refl (l .0) h))
     exec-fine (Bipush b) r e l =
         let x = replaced f p V [] (Word ∷ []) (d .shape) r e in
-        room-fine P plans st s _ (room-left Word r x) (pushes Word r (p + 2) (word (ofZ w32 b)) x refl (l .0) h)
+        room-fine P plans st s _ (room-left Word r x) (pushes Word r (p + 2) (word (wrap b)) x refl (l .0) h)
     exec-fine (Ildc c) r e l =
         let x = inside c (length (P .integers)) Word r e in
         let n = nth-some (P .integers) c (ltb-true c (length (P .integers)) (x .0)) in

@@ -6,8 +6,6 @@ use Prim.Native.Nat.{ℕ, zero, suc, _+_, _-_}
 use lib.ListN.{length, getD, set, replicate}
 use lib.Dec.{eqb, ltb, leb}
 use lib.IntN.{ℤ}
-use mir.Val.{ofZ}
-use mir.Syntax.{w32}
 use Rattle.std.specs.declared.option.Option.{Option}
 use Rattle.std.specs.declared.option.Option.the-variants.{Some, None}
 use Rattle.bytecode.specs.declared.kind.Kind.{Kind}
@@ -20,7 +18,7 @@ use Rattle.bytecode.specs.Program.{Program, Function, Native, Signature}
 use Rattle.bytecode.specs.Stops.{Attempt, gives, stops}
 use Rattle.plan.specs.Programs.{nth}
 use Rattle.heap.specs.Checked.{Heap, Reference, null, text, block, new, newarray, arraylength, aaddf, aadds, imload, cmload, amload, imstore, cmstore, amstore}
-use Rattle.word.specs.Words.{compute, holds}
+use Rattle.word.specs.Words.{compute, holds, wrap}
 use Rattle.host.specs.Hosts.{Host, Call, Text, noText, textAt}
 use Rattle.host.specs.declared.call.Argument
 use Rattle.host.specs.declared.call.Argument.{Argument}
@@ -265,7 +263,7 @@ module _ {S : Type 0} where
     exec AconstNull f p q vs st rest h s = roomFor st s (resume f q vs (reference null ∷ st) rest h s)
     exec (Aldc c) f p q vs st rest h s =
         cond (ltb c (length (P .strings))) (roomFor st s (resume f q vs (reference (text c) ∷ st) rest h s)) (breaks s)
-    exec (Bipush b) f p q vs st rest h s = roomFor st s (resume f q vs (word (ofZ w32 b) ∷ st) rest h s)
+    exec (Bipush b) f p q vs st rest h s = roomFor st s (resume f q vs (word (wrap b) ∷ st) rest h s)
     exec (Ildc c) f p q vs st rest h s = found (nth (P .integers) c) s (λ n. roomFor st s (resume f q vs (word n ∷ st) rest h s))
     exec (Vload i) f p q vs st rest h s = found (variable vs i) s (λ v. roomFor st s (resume f q vs (v ∷ st) rest h s))
     exec (Vstore i) f p q vs st rest h s =
