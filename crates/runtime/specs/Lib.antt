@@ -1,1 +1,2 @@
 pub mod Runtime
+pub mod Relation
