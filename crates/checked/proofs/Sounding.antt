@@ -114,10 +114,10 @@ module _ (P : Program) (plans : Plans) where
 -- ## One instruction
 
 module _ (P : Program) (plans : Plans) (ok : Accepted P plans) where
-  good-plan : (f : ℕ) (g : Function) → nth (P .functions) f ≡ Some g → Good P f (plans f)
+  pub good-plan : (f : ℕ) (g : Function) → nth (P .functions) f ≡ Some g → Good P f (plans f)
   good-plan f g e = ok .fullest f (nth-within (P .functions) f g e) .sound
 
-  is-function : (f : ℕ) (g : Function) → nth (P .functions) f ≡ Some g → functionAt P f ≡ g
+  pub is-function : (f : ℕ) (g : Function) → nth (P .functions) f ≡ Some g → functionAt P f ≡ g
   is-function f g e = nth-getD (P .functions) f g noFunction e
 
   module _ {S : Type 0} (host : Host S) (lawful : Lawful host) (sizes : Sizes) (f p : ℕ) (vs : List (Option Value)) (st : List Value)

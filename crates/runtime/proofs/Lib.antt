@@ -1,1 +1,4 @@
 pub mod Laying
+pub mod Sizing
+pub mod Framing
+pub mod Simulating
