@@ -265,3 +265,181 @@ module _ (P : Program) (sizes : Sizes) {S : Type 0} (f p : ℕ) (vs : List (Opti
             renew (v ∷ t) r q (set vs i (Some v)) t h _ (l .top - 1) (l .storage) (o .above ∙ (let z : high t ≡ length (flat (frame f q (set vs i (Some v)) t ∷ rest)) = omega arith in z))
               (subst (λ x. Lays count (flat (frame f q (set vs i (Some v)) t ∷ rest)) (set (l .slots) (x + i) (slot l (l .top - 1)))) (sym (r .base)) b)
               (length-set (l .slots) (l .base + i) (slot l (l .top - 1))) (r .heap) (as-it-was (v ∷ t) r)
+
+    -- ### Words
+
+    tried-same : {A : Type 0} (x : Attempt A) (k : A → Next Conf S) (j : A → Came) → ((a : A) → x ≡ gives a → Same R (k a) (lifted s (j a)))
+      → Same R (attempt x s k) (lifted s (tried x j))
+    tried-same (gives a) k j g = g a refl
+    tried-same (stops e) k j g = stop
+
+    -- two words off the stack
+    two-words : (Q : List Value → Type 0) {st : List Value} {ks : List Kind} → Kinded st (Word ∷ Word ∷ ks)
+      → ((y x : ℕ) (t : List Value) → Kinded t ks → Q (word y ∷ word x ∷ t)) → Q st
+    two-words Q (words {n = y} (words {n = x} {st = t} k)) g = g y x t k
+
+    binary-same : {st : List Value} {ks : List Kind} → Kinded st (Word ∷ Word ∷ ks) → Rep st → length st ≤ 32 → (q : ℕ) (compute : ℕ → ℕ → Attempt ℕ)
+      → ((x y : ℕ) → x < 2 ^ 32 → y < 2 ^ 32 → Word32 (compute x y))
+      → Same R (popWord st s (λ y u. popWord u s (λ x t. attempt (compute x y) s (λ z. resume f q vs (word z ∷ t) rest h s))))
+        (lifted s (tried (compute (wordIn l (l .top - 2)) (wordIn l (l .top - 1))) (λ z. went (pushed l q (l .top - 2) z))))
+    binary-same d r low q compute bound =
+        two-words (λ st. Rep st → length st ≤ 32 → Same R (popWord st s (λ y u. popWord u s (λ x t. attempt (compute x y) s (λ z. resume f q vs (word z ∷ t) rest h s))))
+          (lifted s (tried (compute (wordIn l (l .top - 2)) (wordIn l (l .top - 1))) (λ z. went (pushed l q (l .top - 2) z))))) d
+          (λ y x t kt r low.
+            let o = two (word y) (word x) t r in
+            let ex = word-in x (slot l (l .top - 2)) (o .first .0) (o .first .1) in
+            let ey = word-in y (slot l (l .top - 1)) (o .second .0) (o .second .1) in
+            subst₂ (λ a b. Same R (attempt (compute x y) s (λ z. resume f q vs (word z ∷ t) rest h s)) (lifted s (tried (compute a b) (λ z. went (pushed l q (l .top - 2) z))))) (sym ex) (sym ey)
+              (tried-same (compute x y) _ _ (λ z e. go (push (word y ∷ word x ∷ t) r t q (l .top - 2) z (word z) (o .lays) (o .above) (omega arith)
+                (refl, subst Word32 e (bound x y (o .first .1) (o .second .1))))))) r low
+
+    -- ### Branches
+
+    jump-same : (st t : List Value) → Rep st → Lays (l .storage .count) (flat (frame f p vs t ∷ rest)) (l .slots) → (i : ℕ) → i ≡ high t
+      → (o : Option ℕ) → (to : ℕ) → o ≡ Some to → Same R (found o s (λ to. resume f to vs t rest h s)) (lifted s (jumped l i o))
+    jump-same st t r lays i e o to q =
+        subst (λ x. Same R (found x s (λ to. resume f to vs t rest h s)) (lifted s (jumped l i x))) (sym q)
+          (go (cut st r t to i h (l .storage) lays e (r .heap) (as-it-was st r)))
+
+    -- a branch whose target, if it is taken, is a place
+    branch-same : (st t : List Value) → Rep st → Lays (l .storage .count) (flat (frame f p vs t ∷ rest)) (l .slots) → (i : ℕ) → i ≡ high t
+      → (b : Bool) (o : ℤ) (q to : ℕ) → target p o ≡ Some to → Same R (branch b o f p q vs t rest h s) (lifted s (branched l q o i b))
+    branch-same st t r lays i e false o q to known = go (cut st r t q i h (l .storage) lays e (r .heap) (as-it-was st r))
+    branch-same st t r lays i e true o q to known =
+        subst (λ a. Same R (branch true o f p q vs t rest h s) (lifted s (jumped l i (target a o)))) (sym (r .place)) (jump-same st t r lays i e (target p o) to known)
+
+    order-same : {st : List Value} {ks : List Kind} → Kinded st (Word ∷ Word ∷ ks) → Rep st → (holds : ℕ → ℕ → Bool) (o : ℤ) (q to : ℕ) → target p o ≡ Some to
+      → Same R (popWord st s (λ y u. popWord u s (λ x t. branch (holds x y) o f p q vs t rest h s)))
+        (lifted s (branched l q o (l .top - 2) (holds (wordIn l (l .top - 2)) (wordIn l (l .top - 1)))))
+    order-same d r holds o q to known =
+        two-words (λ st. Rep st → Same R (popWord st s (λ y u. popWord u s (λ x t. branch (holds x y) o f p q vs t rest h s)))
+          (lifted s (branched l q o (l .top - 2) (holds (wordIn l (l .top - 2)) (wordIn l (l .top - 1)))))) d
+          (λ y x t kt r.
+            let a = two (word y) (word x) t r in
+            let ex = word-in x (slot l (l .top - 2)) (a .first .0) (a .first .1) in
+            let ey = word-in y (slot l (l .top - 1)) (a .second .0) (a .second .1) in
+            subst₂ (λ m n. Same R (branch (holds x y) o f p q vs t rest h s) (lifted s (branched l q o (l .top - 2) (holds m n)))) (sym ex) (sym ey)
+              (branch-same (word y ∷ word x ∷ t) t r (a .lays) (l .top - 2) (a .above) (holds x y) o q to known)) r
+
+    -- two of one kind: equal values have equal numbers
+    equal-same : {st : List Value} {k : Kind} {ks : List Kind} → Kinded st (k ∷ k ∷ ks) → Rep st → (turn : Bool → Bool) (o : ℤ) (q to : ℕ) → target p o ≡ Some to
+      → Same R (popAny st s (λ y u. popAny u s (λ x t. compared x y s (λ b. branch (turn b) o f p q vs t rest h s))))
+        (lifted s (branched l q o (l .top - 2) (turn (eqb (slot l (l .top - 2)) (slot l (l .top - 1))))))
+    equal-same (words {n = y} (words {n = x} {st = t} k)) r turn o q to known =
+        let a = two (word y) (word x) t r in
+        subst₂ (λ m n. Same R (branch (turn (eqb x y)) o f p q vs t rest h s) (lifted s (branched l q o (l .top - 2) (turn (eqb m n))))) (sym (a .first .0)) (sym (a .second .0))
+          (branch-same (word y ∷ word x ∷ t) t r (a .lays) (l .top - 2) (a .above) (turn (eqb x y)) o q to known)
+    equal-same (refs {r = y} (refs {r = x} {st = t} k)) r turn o q to known =
+        let a = two (reference y) (reference x) t r in
+        subst (λ b. Same R (branch (turn (sameReference x y)) o f p q vs t rest h s) (lifted s (branched l q o (l .top - 2) (turn b))))
+          (sym (same-number x y (slot l (l .top - 2)) (slot l (l .top - 1)) (a .first .0) (a .second .0)))
+          (branch-same (reference y ∷ reference x ∷ t) t r (a .lays) (l .top - 2) (a .above) (turn (sameReference x y)) o q to known)
+
+    -- ### Memory
+
+    -- an attempt in the heap and one in the storage that are the same
+    read-same : (x y : Attempt ℕ) → x ≡ y → Word32 y → (k : ℕ → Next Conf S) (j : ℕ → Came) → ((n : ℕ) → n < 2 ^ 32 → Same R (k n) (lifted s (j n)))
+      → Same R (attempt x s k) (lifted s (tried y j))
+    read-same x y e w k j g = subst (λ z. Same R (attempt z s k) (lifted s (tried y j))) (sym e) (tried-same y k j (λ n q. g n (subst Word32 q w)))
+
+    reference-same : (x : Attempt Reference) (y : Attempt ℕ) → x ≡ asReferences y → Names (l .storage .count) y → (k : Reference → Next Conf S) (j : ℕ → Came)
+      → ((n : ℕ) → Known (l .storage .count) n → Same R (k (referenceOf n)) (lifted s (j n))) → Same R (attempt x s k) (lifted s (tried y j))
+    reference-same x y e names k j g = subst (λ z. Same R (attempt z s k) (lifted s (tried y j))) (sym e) (pick y names)
+      where
+        pick : (y : Attempt ℕ) → Names (l .storage .count) y → Same R (attempt (asReferences y) s k) (lifted s (tried y j))
+        pick (gives n) names = g n names
+        pick (stops z) names = stop
+
+    stored-same : {x : Attempt Heap} {y : Attempt Storage} → HeapSame Match x y → KeptIf (l .storage) y → (k : Heap → Next Conf S) (j : Storage → Came)
+      → ((a : Heap) (b : Storage) → Match a b → Kept (l .storage) b → Same R (k a) (lifted s (j b))) → Same R (attempt x s k) (lifted s (tried y j))
+    stored-same (give {a} {b} m) kept k j g = g a b m kept
+    stored-same halt kept k j g = stop
+
+    placed-same : {x : Attempt Rattle.heap.specs.Checked.Allocation} {y : Attempt Placement} → HeapSame Allocated x y → KeptPlacement (l .storage) y
+      → (k : Rattle.heap.specs.Checked.Allocation → Next Conf S) (j : Placement → Came)
+      → ((a : Rattle.heap.specs.Checked.Allocation) (b : Placement) → Allocated a b → Kept (l .storage) (b .storage) → Same R (k a) (lifted s (j b))) → Same R (attempt x s k) (lifted s (tried y j))
+    placed-same (give {a} {b} m) kept k j g = g a b m kept
+    placed-same halt kept k j g = stop
+
+    one-reference : (Q : List Value → Type 0) {st : List Value} {ks : List Kind} → Kinded st (Ref ∷ ks)
+      → ((a : Reference) (t : List Value) → Kinded t ks → Q (reference a ∷ t)) → Q st
+    one-reference Q (refs {r = a} {st = t} k) g = g a t k
+
+    -- a reference off the stack and a word in its place
+    word-at-same : {st : List Value} {ks : List Kind} → Kinded st (Ref ∷ ks) → Rep st → length st ≤ 32 → (q : ℕ) (read : Reference → Attempt ℕ) (load : ℕ → Attempt ℕ)
+      → ((n : ℕ) → Known (l .storage .count) n → (read (referenceOf n) ≡ load n) × Word32 (load n))
+      → Same R (popReference st s (λ a t. attempt (read a) s (λ n. resume f q vs (word n ∷ t) rest h s)))
+        (lifted s (tried (load (slot l (l .top - 1))) (λ n. went (pushed l q (l .top - 1) n))))
+    word-at-same d r low q read load same =
+        one-reference (λ st. Rep st → length st ≤ 32 → Same R (popReference st s (λ a t. attempt (read a) s (λ n. resume f q vs (word n ∷ t) rest h s)))
+          (lifted s (tried (load (slot l (l .top - 1))) (λ n. went (pushed l q (l .top - 1) n))))) d
+          (λ a t kt r low.
+            let o = one (reference a) t r in
+            let e = same (slot l (l .top - 1)) (o .stood .1) in
+            read-same (read a) (load (slot l (l .top - 1))) (ap read (o .stood .0) ∙ e .0) (e .1) _ _
+              (λ n lt. go (push (reference a ∷ t) r t q (l .top - 1) n (word n) (o .lays) (o .above) (omega arith) (refl, lt)))) r low
+
+    -- a reference off the stack and another in its place
+    reference-at-same : {st : List Value} {ks : List Kind} → Kinded st (Ref ∷ ks) → Rep st → length st ≤ 32 → (q : ℕ) (read : Reference → Attempt Reference) (load : ℕ → Attempt ℕ)
+      → ((n : ℕ) → Known (l .storage .count) n → (read (referenceOf n) ≡ asReferences (load n)) × Names (l .storage .count) (load n))
+      → Same R (popReference st s (λ a t. attempt (read a) s (λ e. resume f q vs (reference e ∷ t) rest h s)))
+        (lifted s (tried (load (slot l (l .top - 1))) (λ n. went (pushed l q (l .top - 1) n))))
+    reference-at-same d r low q read load same =
+        one-reference (λ st. Rep st → length st ≤ 32 → Same R (popReference st s (λ a t. attempt (read a) s (λ e. resume f q vs (reference e ∷ t) rest h s)))
+          (lifted s (tried (load (slot l (l .top - 1))) (λ n. went (pushed l q (l .top - 1) n))))) d
+          (λ a t kt r low.
+            let o = one (reference a) t r in
+            let e = same (slot l (l .top - 1)) (o .stood .1) in
+            reference-same (read a) (load (slot l (l .top - 1))) (ap read (o .stood .0) ∙ e .0) (e .1) _ _
+              (λ n known. go (push (reference a ∷ t) r t q (l .top - 1) n (reference (referenceOf n)) (o .lays) (o .above) (omega arith) (refl, known)))) r low
+
+    word-and-reference : (Q : List Value → Type 0) {st : List Value} {ks : List Kind} → Kinded st (Word ∷ Ref ∷ ks)
+      → ((n : ℕ) (a : Reference) (t : List Value) → Kinded t ks → Q (word n ∷ reference a ∷ t)) → Q st
+    word-and-reference Q (words {n} (refs {r = a} {st = t} k)) g = g n a t k
+
+    aadds-same : {st : List Value} {ks : List Kind} → Kinded st (Word ∷ Ref ∷ ks) → Rep st → length st ≤ 32 → (q : ℕ) (add : Reference → ℕ → Attempt Reference) (move : ℕ → ℕ → Attempt ℕ)
+      → ((n i : ℕ) → Known (l .storage .count) n → (add (referenceOf n) i ≡ asReferences (move n i)) × Names (l .storage .count) (move n i))
+      → Same R (popWord st s (λ i u. popReference u s (λ a t. attempt (add a i) s (λ e. resume f q vs (reference e ∷ t) rest h s))))
+        (lifted s (tried (move (slot l (l .top - 2)) (wordIn l (l .top - 1))) (λ n. went (pushed l q (l .top - 2) n))))
+    aadds-same d r low q add move same =
+        word-and-reference (λ st. Rep st → length st ≤ 32 → Same R (popWord st s (λ i u. popReference u s (λ a t. attempt (add a i) s (λ e. resume f q vs (reference e ∷ t) rest h s))))
+          (lifted s (tried (move (slot l (l .top - 2)) (wordIn l (l .top - 1))) (λ n. went (pushed l q (l .top - 2) n))))) d
+          (λ i a t kt r low.
+            let o = two (word i) (reference a) t r in
+            let ei = word-in i (slot l (l .top - 1)) (o .second .0) (o .second .1) in
+            let e = same (slot l (l .top - 2)) i (o .first .1) in
+            subst (λ m. Same R (attempt (add a i) s (λ e. resume f q vs (reference e ∷ t) rest h s)) (lifted s (tried (move (slot l (l .top - 2)) m) (λ n. went (pushed l q (l .top - 2) n))))) (sym ei)
+              (reference-same (add a i) (move (slot l (l .top - 2)) i) (ap (λ x. add x i) (o .first .0) ∙ e .0) (e .1) _ _
+                (λ n known. go (push (word i ∷ reference a ∷ t) r t q (l .top - 2) n (reference (referenceOf n)) (o .lays) (o .above) (omega arith) (refl, known))))) r low
+
+    -- a word stored at a reference
+    store-word-same : {st : List Value} {ks : List Kind} → Kinded st (Word ∷ Ref ∷ ks) → Rep st → (q : ℕ) (write : Reference → ℕ → Attempt Heap) (store : ℕ → ℕ → Attempt Storage)
+      → ((n w : ℕ) → Known (l .storage .count) n → HeapSame Match (write (referenceOf n) w) (store n w) × KeptIf (l .storage) (store n w))
+      → Same R (popWord st s (λ n u. popReference u s (λ a t. attempt (write a n) s (λ k. resume f q vs t rest k s))))
+        (lifted s (tried (store (slot l (l .top - 2)) (wordIn l (l .top - 1))) (λ m. went (moved (with-storage l m) q (l .top - 2)))))
+    store-word-same d r q write store same =
+        word-and-reference (λ st. Rep st → Same R (popWord st s (λ n u. popReference u s (λ a t. attempt (write a n) s (λ k. resume f q vs t rest k s))))
+          (lifted s (tried (store (slot l (l .top - 2)) (wordIn l (l .top - 1))) (λ m. went (moved (with-storage l m) q (l .top - 2)))))) d
+          (λ w a t kt r.
+            let o = two (word w) (reference a) t r in
+            let ew = word-in w (slot l (l .top - 1)) (o .second .0) (o .second .1) in
+            let e = same (slot l (l .top - 2)) w (o .first .1) in
+            subst₂ (λ x m. Same R (attempt (write x w) s (λ k. resume f q vs t rest k s)) (lifted s (tried (store (slot l (l .top - 2)) m) (λ m. went (moved (with-storage l m) q (l .top - 2)))))) (sym (o .first .0)) (sym ew)
+              (stored-same (e .0) (e .1) _ _ (λ k m match kept. go (cut (word w ∷ reference a ∷ t) r t q (l .top - 2) k m (o .lays) (o .above) match kept)))) r
+
+    two-references : (Q : List Value → Type 0) {st : List Value} {ks : List Kind} → Kinded st (Ref ∷ Ref ∷ ks)
+      → ((b a : Reference) (t : List Value) → Kinded t ks → Q (reference b ∷ reference a ∷ t)) → Q st
+    two-references Q (refs {r = b} (refs {r = a} {st = t} k)) g = g b a t k
+
+    store-reference-same : {st : List Value} {ks : List Kind} → Kinded st (Ref ∷ Ref ∷ ks) → Rep st → (q : ℕ) (write : Reference → Reference → Attempt Heap) (store : ℕ → ℕ → Attempt Storage)
+      → ((n v : ℕ) → Known (l .storage .count) n → Known (l .storage .count) v → HeapSame Match (write (referenceOf n) (referenceOf v)) (store n v) × KeptIf (l .storage) (store n v))
+      → Same R (popReference st s (λ b u. popReference u s (λ a t. attempt (write a b) s (λ k. resume f q vs t rest k s))))
+        (lifted s (tried (store (slot l (l .top - 2)) (slot l (l .top - 1))) (λ m. went (moved (with-storage l m) q (l .top - 2)))))
+    store-reference-same d r q write store same =
+        two-references (λ st. Rep st → Same R (popReference st s (λ b u. popReference u s (λ a t. attempt (write a b) s (λ k. resume f q vs t rest k s))))
+          (lifted s (tried (store (slot l (l .top - 2)) (slot l (l .top - 1))) (λ m. went (moved (with-storage l m) q (l .top - 2)))))) d
+          (λ b a t kt r.
+            let o = two (reference b) (reference a) t r in
+            let e = same (slot l (l .top - 2)) (slot l (l .top - 1)) (o .first .1) (o .second .1) in
+            subst₂ (λ x y. Same R (attempt (write x y) s (λ k. resume f q vs t rest k s)) (lifted s (tried (store (slot l (l .top - 2)) (slot l (l .top - 1))) (λ m. went (moved (with-storage l m) q (l .top - 2)))))) (sym (o .first .0)) (sym (o .second .0))
+              (stored-same (e .0) (e .1) _ _ (λ k m match kept. go (cut (reference b ∷ reference a ∷ t) r t q (l .top - 2) k m (o .lays) (o .above) match kept)))) r
