@@ -2,3 +2,4 @@ pub mod Laying
 pub mod Sizing
 pub mod Framing
 pub mod Simulating
+pub mod Calling

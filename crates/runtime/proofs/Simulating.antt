@@ -86,11 +86,11 @@ module _ (P : Program) (sizes : Sizes) {S : Type 0} (f p : ℕ) (vs : List (Opti
   abbrev high : List Value → ℕ
   high t = length (flat (frame f p vs t ∷ rest))
 
-  high-more : (v : Value) (t : List Value) → high (v ∷ t) ≡ suc (high t)
+  pub high-more : (v : Value) (t : List Value) → high (v ∷ t) ≡ suc (high t)
   high-more v t = ap length (flat-push f p vs v t rest) ∙ length-more (flat (frame f p vs t ∷ rest)) (Some v)
 
   -- the same frame goes on: other variables, stack, slots, heap and storage
-  renew : (st : List Value) → Rep st → (q : ℕ) (us : List (Option Value)) (t : List Value) (k : Heap) (mem : List ℕ) (top : ℕ) (m : Storage)
+  pub renew : (st : List Value) → Rep st → (q : ℕ) (us : List (Option Value)) (t : List Value) (k : Heap) (mem : List ℕ) (top : ℕ) (m : Storage)
     → top ≡ length (flat (frame f q us t ∷ rest)) → Lays (m .count) (flat (frame f q us t ∷ rest)) mem → length mem ≡ length (l .slots)
     → Match k m → Kept (l .storage) m
     → Represents P sizes f q us t rest k (record { function = l .function; place = q; base = l .base; slots = mem; top = top; frames = l .frames; callers = l .callers; reserved = l .reserved; storage = m })
@@ -113,7 +113,7 @@ module _ (P : Program) (sizes : Sizes) {S : Type 0} (f p : ℕ) (vs : List (Opti
         ; heap = d
         ; sized = e .sized }
 
-  as-it-was : (st : List Value) → Rep st → Kept (l .storage) (l .storage)
+  pub as-it-was : (st : List Value) → Rep st → Kept (l .storage) (l .storage)
   as-it-was st r = record { sized = r .sized; more = omega arith; cells = refl; records = refl }
 
   -- ## Taking values off
@@ -123,7 +123,7 @@ module _ (P : Program) (sizes : Sizes) {S : Type 0} (f p : ℕ) (vs : List (Opti
     pub stood : Stands (l .storage .count) v (slot l (l .top - 1))
     pub above : l .top - 1 ≡ high t
 
-  one : (v : Value) (t : List Value) → Rep (v ∷ t) → One v t
+  pub one : (v : Value) (t : List Value) → Rep (v ∷ t) → One v t
   one v t r =
       let e : l .top - 1 ≡ high t = (let a = r .top in let b = high-more v t in omega arith) in
       let d = subst (λ xs. Lays (l .storage .count) xs (l .slots)) (flat-push f p vs v t rest) (r .lays) in
@@ -138,7 +138,7 @@ module _ (P : Program) (sizes : Sizes) {S : Type 0} (f p : ℕ) (vs : List (Opti
     pub second : Stands (l .storage .count) y (slot l (l .top - 1))
     pub above : l .top - 2 ≡ high t
 
-  two : (y x : Value) (t : List Value) → Rep (y ∷ x ∷ t) → Two y x t
+  pub two : (y x : Value) (t : List Value) → Rep (y ∷ x ∷ t) → Two y x t
   two y x t r =
       let o = one y (x ∷ t) r in
       let e : l .top - 2 ≡ high t = (let a = r .top in let b = high-more y (x ∷ t) in let c = high-more x t in omega arith) in
@@ -164,12 +164,12 @@ module _ (P : Program) (sizes : Sizes) {S : Type 0} (f p : ℕ) (vs : List (Opti
                 (lays-later (l .storage .count) (m .count) (kept .more) (flat (frame f p vs t ∷ rest)) (l .slots) lays) sv))
             (length-set (l .slots) (high t) n) match kept)
 
-    push : (st : List Value) → Rep st → (t : List Value) (q i n : ℕ) (v : Value)
+    pub push : (st : List Value) → Rep st → (t : List Value) (q i n : ℕ) (v : Value)
       → Lays (l .storage .count) (flat (frame f p vs t ∷ rest)) (l .slots) → i ≡ high t → length t < 32 → Stands (l .storage .count) v n
       → R (conf (frame f q vs (v ∷ t)) rest h) (pushed l q i n)
     push st r t q i n v lays e lt sv = put st r t q i n v h (l .storage) lays e lt (r .heap) (as-it-was st r) sv
 
-    cut : (st : List Value) → Rep st → (t : List Value) (q i : ℕ) (k : Heap) (m : Storage)
+    pub cut : (st : List Value) → Rep st → (t : List Value) (q i : ℕ) (k : Heap) (m : Storage)
       → Lays (l .storage .count) (flat (frame f p vs t ∷ rest)) (l .slots) → i ≡ high t → Match k m → Kept (l .storage) m
       → R (conf (frame f q vs t) rest k) (moved (with-storage l m) q i)
     cut st r t q i k m lays e match kept =
@@ -177,17 +177,17 @@ module _ (P : Program) (sizes : Sizes) {S : Type 0} (f p : ℕ) (vs : List (Opti
 
     -- ### Pushing
 
-    room-same : (st : List Value) → length st < 32 → (x : Next Conf S) (y : Next State S) → Same R x y → Same R (roomFor st s x) y
+    pub room-same : (st : List Value) → length st < 32 → (x : Next Conf S) (y : Next State S) → Same R x y → Same R (roomFor st s x) y
     room-same st lt x y k = subst (λ b. Same R (cond b x (breaks s)) y) (sym (lt-ltb (length st) 32 lt)) k
 
-    push-same : (st : List Value) → Rep st → length st < 32 → (q n : ℕ) (v : Value) → Stands (l .storage .count) v n
+    pub push-same : (st : List Value) → Rep st → length st < 32 → (q n : ℕ) (v : Value) → Stands (l .storage .count) v n
       → Same R (roomFor st s (resume f q vs (v ∷ st) rest h s)) (goes (pushed l q (l .top) n) s)
     push-same st r lt q n v sv = room-same st lt _ _ (go (push st r st q (l .top) n v (r .lays) (r .top) lt sv))
 
-    found-same : {A : Type 0} (o : Option A) (k : A → Next Conf S) (y : Next State S) (a : A) → o ≡ Some a → Same R (k a) y → Same R (found o s k) y
+    pub found-same : {A : Type 0} (o : Option A) (k : A → Next Conf S) (y : Next State S) (a : A) → o ≡ Some a → Same R (k a) y → Same R (found o s k) y
     found-same o k y a e h = subst (λ x. Same R (found x s k) y) (sym e) h
 
-    load-same : (st : List Value) → Rep st → length st < 32 → (q i : ℕ) (v : Value) → i < length vs → getD vs i None ≡ Some v
+    pub load-same : (st : List Value) → Rep st → length st < 32 → (q i : ℕ) (v : Value) → i < length vs → getD vs i None ≡ Some v
       → Same R (found (getD vs i None) s (λ v. roomFor st s (resume f q vs (v ∷ st) rest h s))) (goes (pushed l q (l .top) (slot l (l .base + i))) s)
     load-same st r lt q i v inside e =
         found-same (getD vs i None) _ _ v e
@@ -197,27 +197,27 @@ module _ (P : Program) (sizes : Sizes) {S : Type 0} (f p : ℕ) (vs : List (Opti
 
     -- ### Taking off
 
-    nop-same : (st : List Value) → Rep st → (q : ℕ) → Same R (resume f q vs st rest h s) (goes (moved l q (l .top)) s)
+    pub nop-same : (st : List Value) → Rep st → (q : ℕ) → Same R (resume f q vs st rest h s) (goes (moved l q (l .top)) s)
     nop-same st r q = go (cut st r st q (l .top) h (l .storage) (r .lays) (r .top) (r .heap) (as-it-was st r))
 
-    pop-same : {st : List Value} {k : Kind} {ks : List Kind} → Kinded st (k ∷ ks) → Rep st → (q : ℕ)
+    pub pop-same : {st : List Value} {k : Kind} {ks : List Kind} → Kinded st (k ∷ ks) → Rep st → (q : ℕ)
       → Same R (popAny st s (λ v t. resume f q vs t rest h s)) (goes (moved l q (l .top - 1)) s)
     pop-same (words {n} {st = t} d) r q = let o = one (word n) t r in go (cut (word n ∷ t) r t q (l .top - 1) h (l .storage) (o .lays) (o .above) (r .heap) (as-it-was (word n ∷ t) r))
     pop-same (refs {r = a} {st = t} d) r q = let o = one (reference a) t r in go (cut (reference a ∷ t) r t q (l .top - 1) h (l .storage) (o .lays) (o .above) (r .heap) (as-it-was (reference a ∷ t) r))
 
     -- the stack known to have a value on top, or two
-    on-top : (P : List Value → Type 0) {st : List Value} {k : Kind} {ks : List Kind} → Kinded st (k ∷ ks)
+    pub on-top : (P : List Value → Type 0) {st : List Value} {k : Kind} {ks : List Kind} → Kinded st (k ∷ ks)
       → ((v : Value) (t : List Value) → kindOf v ≡ k → Kinded t ks → P (v ∷ t)) → P st
     on-top P (words {n} {st = t} d) g = g (word n) t refl d
     on-top P (refs {r = a} {st = t} d) g = g (reference a) t refl d
 
-    dup-same : {st : List Value} {k : Kind} {ks : List Kind} → Kinded st (k ∷ ks) → Rep st → length st < 32 → (q : ℕ)
+    pub dup-same : {st : List Value} {k : Kind} {ks : List Kind} → Kinded st (k ∷ ks) → Rep st → length st < 32 → (q : ℕ)
       → Same R (popAny st s (λ v t. roomFor st s (resume f q vs (v ∷ v ∷ t) rest h s))) (goes (pushed l q (l .top) (slot l (l .top - 1))) s)
     dup-same {st} d r lt q =
         on-top (λ st. Rep st → length st < 32 → Same R (popAny st s (λ v t. roomFor st s (resume f q vs (v ∷ v ∷ t) rest h s))) (goes (pushed l q (l .top) (slot l (l .top - 1))) s)) d
           (λ v t kv kt r lt. push-same (v ∷ t) r lt q (slot l (l .top - 1)) v (one v t r .stood)) r lt
 
-    swap-same : {st : List Value} {k j : Kind} {ks : List Kind} → Kinded st (k ∷ j ∷ ks) → Rep st → length st ≤ 32 → (q : ℕ)
+    pub swap-same : {st : List Value} {k j : Kind} {ks : List Kind} → Kinded st (k ∷ j ∷ ks) → Rep st → length st ≤ 32 → (q : ℕ)
       → Same R (popAny st s (λ y u. popAny u s (λ x t. resume f q vs (x ∷ y ∷ t) rest h s))) (goes (swapped l q) s)
     swap-same d r low q =
         on-top (λ st. Rep st → length st ≤ 32 → Same R (popAny st s (λ y u. popAny u s (λ x t. resume f q vs (x ∷ y ∷ t) rest h s))) (goes (swapped l q) s)) d
@@ -242,7 +242,7 @@ module _ (P : Program) (sizes : Sizes) {S : Type 0} (f p : ℕ) (vs : List (Opti
               (r .top ∙ high-more y (x ∷ t) ∙ ap suc (high-more x t) ∙ sym (high-more x (y ∷ t) ∙ ap suc (high-more y t)))
               mem′ (length-set _ (l .top - 1) (slot l (l .top - 2)) ∙ length-set (l .slots) (l .top - 2) (slot l (l .top - 1))) (r .heap) (as-it-was (y ∷ x ∷ t) r)
 
-    store-same : {st : List Value} {k : Kind} {ks : List Kind} → Kinded st (k ∷ ks) → Rep st → (q i : ℕ) → i < length vs
+    pub store-same : {st : List Value} {k : Kind} {ks : List Kind} → Kinded st (k ∷ ks) → Rep st → (q i : ℕ) → i < length vs
       → Same R (popAny st s (λ v t. cond (ltb i (length vs)) (resume f q (set vs i (Some v)) t rest h s) (breaks s))) (goes (assigned l q (l .base + i) (slot l (l .top - 1))) s)
     store-same d r q i inside =
         on-top (λ st. Rep st → Same R (popAny st s (λ v t. cond (ltb i (length vs)) (resume f q (set vs i (Some v)) t rest h s) (breaks s))) (goes (assigned l q (l .base + i) (slot l (l .top - 1))) s)) d
@@ -268,7 +268,7 @@ module _ (P : Program) (sizes : Sizes) {S : Type 0} (f p : ℕ) (vs : List (Opti
 
     -- ### Words
 
-    tried-same : {A : Type 0} (x : Attempt A) (k : A → Next Conf S) (j : A → Came) → ((a : A) → x ≡ gives a → Same R (k a) (lifted s (j a)))
+    pub tried-same : {A : Type 0} (x : Attempt A) (k : A → Next Conf S) (j : A → Came) → ((a : A) → x ≡ gives a → Same R (k a) (lifted s (j a)))
       → Same R (attempt x s k) (lifted s (tried x j))
     tried-same (gives a) k j g = g a refl
     tried-same (stops e) k j g = stop
@@ -278,7 +278,7 @@ module _ (P : Program) (sizes : Sizes) {S : Type 0} (f p : ℕ) (vs : List (Opti
       → ((y x : ℕ) (t : List Value) → Kinded t ks → Q (word y ∷ word x ∷ t)) → Q st
     two-words Q (words {n = y} (words {n = x} {st = t} k)) g = g y x t k
 
-    binary-same : {st : List Value} {ks : List Kind} → Kinded st (Word ∷ Word ∷ ks) → Rep st → length st ≤ 32 → (q : ℕ) (compute : ℕ → ℕ → Attempt ℕ)
+    pub binary-same : {st : List Value} {ks : List Kind} → Kinded st (Word ∷ Word ∷ ks) → Rep st → length st ≤ 32 → (q : ℕ) (compute : ℕ → ℕ → Attempt ℕ)
       → ((x y : ℕ) → x < 2 ^ 32 → y < 2 ^ 32 → Word32 (compute x y))
       → Same R (popWord st s (λ y u. popWord u s (λ x t. attempt (compute x y) s (λ z. resume f q vs (word z ∷ t) rest h s))))
         (lifted s (tried (compute (wordIn l (l .top - 2)) (wordIn l (l .top - 1))) (λ z. went (pushed l q (l .top - 2) z))))
@@ -295,20 +295,20 @@ module _ (P : Program) (sizes : Sizes) {S : Type 0} (f p : ℕ) (vs : List (Opti
 
     -- ### Branches
 
-    jump-same : (st t : List Value) → Rep st → Lays (l .storage .count) (flat (frame f p vs t ∷ rest)) (l .slots) → (i : ℕ) → i ≡ high t
+    pub jump-same : (st t : List Value) → Rep st → Lays (l .storage .count) (flat (frame f p vs t ∷ rest)) (l .slots) → (i : ℕ) → i ≡ high t
       → (o : Option ℕ) → (to : ℕ) → o ≡ Some to → Same R (found o s (λ to. resume f to vs t rest h s)) (lifted s (jumped l i o))
     jump-same st t r lays i e o to q =
         subst (λ x. Same R (found x s (λ to. resume f to vs t rest h s)) (lifted s (jumped l i x))) (sym q)
           (go (cut st r t to i h (l .storage) lays e (r .heap) (as-it-was st r)))
 
     -- a branch whose target, if it is taken, is a place
-    branch-same : (st t : List Value) → Rep st → Lays (l .storage .count) (flat (frame f p vs t ∷ rest)) (l .slots) → (i : ℕ) → i ≡ high t
+    pub branch-same : (st t : List Value) → Rep st → Lays (l .storage .count) (flat (frame f p vs t ∷ rest)) (l .slots) → (i : ℕ) → i ≡ high t
       → (b : Bool) (o : ℤ) (q to : ℕ) → target p o ≡ Some to → Same R (branch b o f p q vs t rest h s) (lifted s (branched l q o i b))
     branch-same st t r lays i e false o q to known = go (cut st r t q i h (l .storage) lays e (r .heap) (as-it-was st r))
     branch-same st t r lays i e true o q to known =
         subst (λ a. Same R (branch true o f p q vs t rest h s) (lifted s (jumped l i (target a o)))) (sym (r .place)) (jump-same st t r lays i e (target p o) to known)
 
-    order-same : {st : List Value} {ks : List Kind} → Kinded st (Word ∷ Word ∷ ks) → Rep st → (holds : ℕ → ℕ → Bool) (o : ℤ) (q to : ℕ) → target p o ≡ Some to
+    pub order-same : {st : List Value} {ks : List Kind} → Kinded st (Word ∷ Word ∷ ks) → Rep st → (holds : ℕ → ℕ → Bool) (o : ℤ) (q to : ℕ) → target p o ≡ Some to
       → Same R (popWord st s (λ y u. popWord u s (λ x t. branch (holds x y) o f p q vs t rest h s)))
         (lifted s (branched l q o (l .top - 2) (holds (wordIn l (l .top - 2)) (wordIn l (l .top - 1)))))
     order-same d r holds o q to known =
@@ -322,7 +322,7 @@ module _ (P : Program) (sizes : Sizes) {S : Type 0} (f p : ℕ) (vs : List (Opti
               (branch-same (word y ∷ word x ∷ t) t r (a .lays) (l .top - 2) (a .above) (holds x y) o q to known)) r
 
     -- two of one kind: equal values have equal numbers
-    equal-same : {st : List Value} {k : Kind} {ks : List Kind} → Kinded st (k ∷ k ∷ ks) → Rep st → (turn : Bool → Bool) (o : ℤ) (q to : ℕ) → target p o ≡ Some to
+    pub equal-same : {st : List Value} {k : Kind} {ks : List Kind} → Kinded st (k ∷ k ∷ ks) → Rep st → (turn : Bool → Bool) (o : ℤ) (q to : ℕ) → target p o ≡ Some to
       → Same R (popAny st s (λ y u. popAny u s (λ x t. compared x y s (λ b. branch (turn b) o f p q vs t rest h s))))
         (lifted s (branched l q o (l .top - 2) (turn (eqb (slot l (l .top - 2)) (slot l (l .top - 1))))))
     equal-same (words {n = y} (words {n = x} {st = t} k)) r turn o q to known =
@@ -338,11 +338,11 @@ module _ (P : Program) (sizes : Sizes) {S : Type 0} (f p : ℕ) (vs : List (Opti
     -- ### Memory
 
     -- an attempt in the heap and one in the storage that are the same
-    read-same : (x y : Attempt ℕ) → x ≡ y → Word32 y → (k : ℕ → Next Conf S) (j : ℕ → Came) → ((n : ℕ) → n < 2 ^ 32 → Same R (k n) (lifted s (j n)))
+    pub read-same : (x y : Attempt ℕ) → x ≡ y → Word32 y → (k : ℕ → Next Conf S) (j : ℕ → Came) → ((n : ℕ) → n < 2 ^ 32 → Same R (k n) (lifted s (j n)))
       → Same R (attempt x s k) (lifted s (tried y j))
     read-same x y e w k j g = subst (λ z. Same R (attempt z s k) (lifted s (tried y j))) (sym e) (tried-same y k j (λ n q. g n (subst Word32 q w)))
 
-    reference-same : (x : Attempt Reference) (y : Attempt ℕ) → x ≡ asReferences y → Names (l .storage .count) y → (k : Reference → Next Conf S) (j : ℕ → Came)
+    pub reference-same : (x : Attempt Reference) (y : Attempt ℕ) → x ≡ asReferences y → Names (l .storage .count) y → (k : Reference → Next Conf S) (j : ℕ → Came)
       → ((n : ℕ) → Known (l .storage .count) n → Same R (k (referenceOf n)) (lifted s (j n))) → Same R (attempt x s k) (lifted s (tried y j))
     reference-same x y e names k j g = subst (λ z. Same R (attempt z s k) (lifted s (tried y j))) (sym e) (pick y names)
       where
@@ -350,12 +350,12 @@ module _ (P : Program) (sizes : Sizes) {S : Type 0} (f p : ℕ) (vs : List (Opti
         pick (gives n) names = g n names
         pick (stops z) names = stop
 
-    stored-same : {x : Attempt Heap} {y : Attempt Storage} → HeapSame Match x y → KeptIf (l .storage) y → (k : Heap → Next Conf S) (j : Storage → Came)
+    pub stored-same : {x : Attempt Heap} {y : Attempt Storage} → HeapSame Match x y → KeptIf (l .storage) y → (k : Heap → Next Conf S) (j : Storage → Came)
       → ((a : Heap) (b : Storage) → Match a b → Kept (l .storage) b → Same R (k a) (lifted s (j b))) → Same R (attempt x s k) (lifted s (tried y j))
     stored-same (give {a} {b} m) kept k j g = g a b m kept
     stored-same halt kept k j g = stop
 
-    placed-same : {x : Attempt Rattle.heap.specs.Checked.Allocation} {y : Attempt Placement} → HeapSame Allocated x y → KeptPlacement (l .storage) y
+    pub placed-same : {x : Attempt Rattle.heap.specs.Checked.Allocation} {y : Attempt Placement} → HeapSame Allocated x y → KeptPlacement (l .storage) y
       → (k : Rattle.heap.specs.Checked.Allocation → Next Conf S) (j : Placement → Came)
       → ((a : Rattle.heap.specs.Checked.Allocation) (b : Placement) → Allocated a b → Kept (l .storage) (b .storage) → Same R (k a) (lifted s (j b))) → Same R (attempt x s k) (lifted s (tried y j))
     placed-same (give {a} {b} m) kept k j g = g a b m kept
@@ -366,7 +366,7 @@ module _ (P : Program) (sizes : Sizes) {S : Type 0} (f p : ℕ) (vs : List (Opti
     one-reference Q (refs {r = a} {st = t} k) g = g a t k
 
     -- a reference off the stack and a word in its place
-    word-at-same : {st : List Value} {ks : List Kind} → Kinded st (Ref ∷ ks) → Rep st → length st ≤ 32 → (q : ℕ) (read : Reference → Attempt ℕ) (load : ℕ → Attempt ℕ)
+    pub word-at-same : {st : List Value} {ks : List Kind} → Kinded st (Ref ∷ ks) → Rep st → length st ≤ 32 → (q : ℕ) (read : Reference → Attempt ℕ) (load : ℕ → Attempt ℕ)
       → ((n : ℕ) → Known (l .storage .count) n → (read (referenceOf n) ≡ load n) × Word32 (load n))
       → Same R (popReference st s (λ a t. attempt (read a) s (λ n. resume f q vs (word n ∷ t) rest h s)))
         (lifted s (tried (load (slot l (l .top - 1))) (λ n. went (pushed l q (l .top - 1) n))))
@@ -380,7 +380,7 @@ module _ (P : Program) (sizes : Sizes) {S : Type 0} (f p : ℕ) (vs : List (Opti
               (λ n lt. go (push (reference a ∷ t) r t q (l .top - 1) n (word n) (o .lays) (o .above) (omega arith) (refl, lt)))) r low
 
     -- a reference off the stack and another in its place
-    reference-at-same : {st : List Value} {ks : List Kind} → Kinded st (Ref ∷ ks) → Rep st → length st ≤ 32 → (q : ℕ) (read : Reference → Attempt Reference) (load : ℕ → Attempt ℕ)
+    pub reference-at-same : {st : List Value} {ks : List Kind} → Kinded st (Ref ∷ ks) → Rep st → length st ≤ 32 → (q : ℕ) (read : Reference → Attempt Reference) (load : ℕ → Attempt ℕ)
       → ((n : ℕ) → Known (l .storage .count) n → (read (referenceOf n) ≡ asReferences (load n)) × Names (l .storage .count) (load n))
       → Same R (popReference st s (λ a t. attempt (read a) s (λ e. resume f q vs (reference e ∷ t) rest h s)))
         (lifted s (tried (load (slot l (l .top - 1))) (λ n. went (pushed l q (l .top - 1) n))))
@@ -397,7 +397,7 @@ module _ (P : Program) (sizes : Sizes) {S : Type 0} (f p : ℕ) (vs : List (Opti
       → ((n : ℕ) (a : Reference) (t : List Value) → Kinded t ks → Q (word n ∷ reference a ∷ t)) → Q st
     word-and-reference Q (words {n} (refs {r = a} {st = t} k)) g = g n a t k
 
-    aadds-same : {st : List Value} {ks : List Kind} → Kinded st (Word ∷ Ref ∷ ks) → Rep st → length st ≤ 32 → (q : ℕ) (add : Reference → ℕ → Attempt Reference) (move : ℕ → ℕ → Attempt ℕ)
+    pub aadds-same : {st : List Value} {ks : List Kind} → Kinded st (Word ∷ Ref ∷ ks) → Rep st → length st ≤ 32 → (q : ℕ) (add : Reference → ℕ → Attempt Reference) (move : ℕ → ℕ → Attempt ℕ)
       → ((n i : ℕ) → Known (l .storage .count) n → (add (referenceOf n) i ≡ asReferences (move n i)) × Names (l .storage .count) (move n i))
       → Same R (popWord st s (λ i u. popReference u s (λ a t. attempt (add a i) s (λ e. resume f q vs (reference e ∷ t) rest h s))))
         (lifted s (tried (move (slot l (l .top - 2)) (wordIn l (l .top - 1))) (λ n. went (pushed l q (l .top - 2) n))))
@@ -413,7 +413,7 @@ module _ (P : Program) (sizes : Sizes) {S : Type 0} (f p : ℕ) (vs : List (Opti
                 (λ n known. go (push (word i ∷ reference a ∷ t) r t q (l .top - 2) n (reference (referenceOf n)) (o .lays) (o .above) (omega arith) (refl, known))))) r low
 
     -- a word stored at a reference
-    store-word-same : {st : List Value} {ks : List Kind} → Kinded st (Word ∷ Ref ∷ ks) → Rep st → (q : ℕ) (write : Reference → ℕ → Attempt Heap) (store : ℕ → ℕ → Attempt Storage)
+    pub store-word-same : {st : List Value} {ks : List Kind} → Kinded st (Word ∷ Ref ∷ ks) → Rep st → (q : ℕ) (write : Reference → ℕ → Attempt Heap) (store : ℕ → ℕ → Attempt Storage)
       → ((n w : ℕ) → Known (l .storage .count) n → HeapSame Match (write (referenceOf n) w) (store n w) × KeptIf (l .storage) (store n w))
       → Same R (popWord st s (λ n u. popReference u s (λ a t. attempt (write a n) s (λ k. resume f q vs t rest k s))))
         (lifted s (tried (store (slot l (l .top - 2)) (wordIn l (l .top - 1))) (λ m. went (moved (with-storage l m) q (l .top - 2)))))
@@ -431,7 +431,7 @@ module _ (P : Program) (sizes : Sizes) {S : Type 0} (f p : ℕ) (vs : List (Opti
       → ((b a : Reference) (t : List Value) → Kinded t ks → Q (reference b ∷ reference a ∷ t)) → Q st
     two-references Q (refs {r = b} (refs {r = a} {st = t} k)) g = g b a t k
 
-    store-reference-same : {st : List Value} {ks : List Kind} → Kinded st (Ref ∷ Ref ∷ ks) → Rep st → (q : ℕ) (write : Reference → Reference → Attempt Heap) (store : ℕ → ℕ → Attempt Storage)
+    pub store-reference-same : {st : List Value} {ks : List Kind} → Kinded st (Ref ∷ Ref ∷ ks) → Rep st → (q : ℕ) (write : Reference → Reference → Attempt Heap) (store : ℕ → ℕ → Attempt Storage)
       → ((n v : ℕ) → Known (l .storage .count) n → Known (l .storage .count) v → HeapSame Match (write (referenceOf n) (referenceOf v)) (store n v) × KeptIf (l .storage) (store n v))
       → Same R (popReference st s (λ b u. popReference u s (λ a t. attempt (write a b) s (λ k. resume f q vs t rest k s))))
         (lifted s (tried (store (slot l (l .top - 2)) (slot l (l .top - 1))) (λ m. went (moved (with-storage l m) q (l .top - 2)))))
