@@ -3,3 +3,4 @@ pub mod Sizing
 pub mod Framing
 pub mod Simulating
 pub mod Calling
+pub mod Stepping

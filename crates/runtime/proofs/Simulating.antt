@@ -34,7 +34,7 @@ use Rattle.runtime.proofs.Framing.{flat-length, flat-push, variable-at, variab
 
 -- ## Words and references in slots
 
-word-in : (w n : ℕ) → n ≡ w → w < 2 ^ 32 → n % 2 ^ 32 ≡ w
+pub word-in : (w n : ℕ) → n ≡ w → w < 2 ^ 32 → n % 2 ^ 32 ≡ w
 word-in w n e lt = omega arith
 
 reference-number : (r q : Reference) (n m : ℕ) → r ≡ referenceOf n → q ≡ referenceOf m → r ≡ q → n ≡ m

@@ -7,6 +7,7 @@ use Rattle.std.specs.declared.option.Option.{Option}
 use Rattle.std.specs.declared.option.Option.the-variants.{Some, None}
 use Rattle.bytecode.specs.declared.stop.Stop.{Stop}
 use Rattle.bytecode.specs.Program.{Program}
+use Rattle.plan.specs.Programs.{nth}
 use Rattle.heap.specs.Checked.{Heap}
 use Rattle.heap.specs.Storage.{Storage, Known, referenceOf, cellIn, recordIn}
 use Rattle.heap.specs.Relation.{Match}
@@ -14,6 +15,11 @@ use Rattle.checked.specs.Runs.{Next, goes, ends, stops, Status, live, ended, st
 use Rattle.checked.specs.Machine.{Value, word, reference, Frame, frame, Conf, conf, Sizes, reserved}
 use Rattle.runtime.specs.declared.FrameRecord.{FrameRecord}
 use Rattle.runtime.specs.Runtime.{State, noFrame}
+
+-- the integers of a program are words, and its strings are few enough for every position to be told from a block
+pub record Small (P : Program) : Type 0 where
+  pub integers : (c n : ℕ) → nth (P .integers) c ≡ Some n → n < 2 ^ 32
+  pub strings : length (P .strings) < 2 ^ 32
 
 -- ## Slots
 
