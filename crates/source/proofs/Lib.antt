@@ -1,3 +1,5 @@
-mod Offsets
+mod Answering
 mod Characters
+mod Loading
+mod Offsets
 mod Passing

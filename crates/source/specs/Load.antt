@@ -14,6 +14,12 @@ use Rattle.source.specs.Rest.{Rest, byte, end, fault}
 abbrev pub roomOf : List ℕ → ℕ
 roomOf buffer = min (length buffer) 16384
 
+-- what load answers, the whole buffer afterwards, and what is to come of the source then
+pub record Loaded (P F : Type 0) : Type 0 where
+  pub answer : Result ℕ (LoadFault P F)
+  pub memory : List ℕ
+  pub left : Rest P F
+
 module _ {P F : Type 0} where
   -- the bytes to come
   unfoldable pub bytesOf : Rest P F → List ℕ
@@ -35,12 +41,13 @@ module _ {P F : Type 0} where
   afterBytes n end = end
   afterBytes n (fault f) = fault f
 
-  -- the answer and the buffer afterwards
-  abbrev pub copied : Option (LoadFault P F) → List ℕ → List ℕ → Result ℕ (LoadFault P F) × List ℕ
-  copied None bytes buffer = (Ok (length bytes), bytes ++ drop (length bytes) buffer)
-  copied (Some e) bytes buffer = (Err e, replicate (length buffer) 0)
+  -- load with the fault that it meets, if any, the bytes to come, the buffer, and what is to come afterwards
+  abbrev pub outcome : Option (LoadFault P F) → List ℕ → List ℕ → Rest P F → Loaded P F
+  outcome None bytes buffer left =
+      record { answer = Ok (length bytes); memory = bytes ++ drop (length bytes) buffer; left = left }
+  outcome (Some e) bytes buffer left = record { answer = Err e; memory = replicate (length buffer) 0; left = left }
 
-  -- load from a source that means `rest`: the answer and the buffer afterwards, and what the source means then
-  abbrev pub loaded : Rest P F → List ℕ → (Result ℕ (LoadFault P F) × List ℕ) × Rest P F
+  -- load from a source that means `rest` to `buffer`
+  abbrev pub loaded : Rest P F → List ℕ → Loaded P F
   loaded rest buffer =
-      (copied (brokenOff (roomOf buffer) rest) (bytesOf rest) buffer, afterBytes (roomOf buffer) rest)
+      outcome (brokenOff (roomOf buffer) rest) (bytesOf rest) buffer (afterBytes (roomOf buffer) rest)

@@ -159,7 +159,7 @@ pub impl Source for HexText<'_> as HexTextSource {
     fn place(&self) -> Option<Position> {
         let start = skip_blanks(self.text, self.cursor);
         match byte_at(self.text, start) {
-            Ok(Some(_)) => Some(start.at),
+            Ok(Some(_byte)) => Some(start.at),
             _ => None,
         }
     }
