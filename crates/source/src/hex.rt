@@ -5,8 +5,10 @@ ghost use denote.Ref.{now};
 ghost use lib.ListN.{length, drop, getD};
 ghost use Rattle.source.specs.Rest.{nextOf};
 ghost use Rattle.source.specs.Hex.{digitOf, blank, advanced, between, right, hexText};
+ghost use Rattle.source.specs.Numbers.{textShown};
 ghost use Rattle.source.specs.Skipping.{Inside, Solid};
 use crate::Source;
+use crate::loader::LoadFault;
 
 /// Where a character stands: its line and its column, both from 1. Only 0A ends a line; any other byte is one column.
 #[derive(Clone, Copy)]
@@ -162,5 +164,19 @@ pub impl Source for HexText<'_> as HexTextSource {
             Ok(Some(_byte)) => Some(start.at),
             _ => None,
         }
+    }
+}
+
+impl LoadFault<Position, TextFault> {
+    /// The number of a fault of loading hex text (1 bad character, 2 lone digit, 3 too long), and its line and column.
+    pub fn shown(&self) -> (u8, usize, usize)
+        ensures { λ r. ⌜ r ≡ textShown (now (self .entry)) ⌝ }
+    {
+        let (number, at) = match self {
+            LoadFault::Unreadable(TextFault::BadCharacter(at)) => (1, at),
+            LoadFault::Unreadable(TextFault::LoneDigit(at)) => (2, at),
+            LoadFault::TooLong(at) => (3, at),
+        };
+        (number, at.line, at.column)
     }
 }

@@ -4,10 +4,7 @@ ghost use mathlib.Core.Bool.{cond};
 ghost use lib.ListN.{length, replicate};
 ghost use Rattle.source.specs.declared.loader.LoadFault.the-variants.{Unreadable};
 ghost use Rattle.source.specs.Load.{loaded};
-ghost use Rattle.source.specs.Numbers.{textShown};
 use crate::Source;
-use crate::hex::Position;
-use crate::hex::TextFault;
 
 /// The most bytes that a package has.
 pub const LIMIT: usize = 16384;

@@ -2,8 +2,10 @@
 ghost use mathlib.Core.Path.{_≡_};
 ghost use denote.Ref.{now};
 ghost use lib.ListN.{drop};
+ghost use Rattle.source.specs.Numbers.{rawShown};
 ghost use Rattle.source.specs.Raw.{raw};
 use crate::Source;
+use crate::loader::LoadFault;
 use std::convert::Infallible;
 
 /// Bytes that are read from `offset` on.
@@ -39,5 +41,17 @@ pub impl Source for Raw<'_> as RawSource {
 
     fn place(&self) -> Option<usize> {
         if self.offset < self.bytes.len() { Some(self.offset) } else { None }
+    }
+}
+
+impl LoadFault<usize, Infallible> {
+    /// The number of the one fault of loading raw bytes (3 too long), a 0, and the offset.
+    pub fn shown(&self) -> (u8, usize, usize)
+        ensures { λ r. ⌜ r ≡ rawShown (now (self .entry)) ⌝ }
+    {
+        match self {
+            LoadFault::TooLong(offset) => (3, 0, *offset),
+            LoadFault::Unreadable(never) => match *never {},
+        }
     }
 }
