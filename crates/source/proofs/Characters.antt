@@ -145,7 +145,7 @@ pub byte-answered-at :
     → (i + 2 ≤ length t) × (between (drop i t) at ≡ byte b at (between (drop (i + 2) t) (right (right at))))
 byte-answered-at t i at b s h =
     let solid : 0 < length (drop i t) → Solid (getD (drop i t) 0 0) =
-        λ k. subst (λ (c : ℕ). Solid c) (sym (getD-drop i t 0 0 ∙ ap (λ (j : ℕ). getD t j 0) (add-zero i))) (s (omega (arith, length-drop i t)))
+    λ k. subst (λ (c : ℕ). Solid c) (sym (getD-drop i t 0 0 ∙ ap (λ (j : ℕ). getD t j 0) (add-zero i))) (s (omega (arith, length-drop i t)))
     in
     let found = byte-answered (drop i t) at b solid h in
     (omega (arith, length-drop i t, found .0), found .1 ∙ ap (λ (l : List ℕ). byte b at (between l (right (right at)))) (drop-drop 2 i t))

@@ -47,7 +47,7 @@ module _ {P F : Type 0} where
         untouched = refl;
         size = refl;
         breaks = ap (λ (n : ℕ). brokenOff n start) (omega arith);
-        left = ap (λ (n : ℕ). afterBytes n start) (omega arith)
+        left = ap (λ (n : ℕ). afterBytes n start) (omega arith);
       }
 
   fault-told : (r : Rest P F) (f : F) → nextOf r ≡ Err f → r ≡ fault f
@@ -99,27 +99,27 @@ module _ {P F : Type 0} where
       record {
         within = omega arith;
         filled =
-          u .filled
-          ∙ ap (λ (r : Rest P F). take count buffer ++ bytesOf r) is
-          ∙ ap (λ (l : List ℕ). take count buffer ++ l) (bytes-on b (found .0) rest)
-          ∙ sym (append-assoc (take count buffer) (b ∷ []) (bytesOf rest))
-          ∙ ap (λ (l : List ℕ). l ++ bytesOf rest) (sym front);
+            u .filled
+            ∙ ap (λ (r : Rest P F). take count buffer ++ bytesOf r) is
+            ∙ ap (λ (l : List ℕ). take count buffer ++ l) (bytes-on b (found .0) rest)
+            ∙ sym (append-assoc (take count buffer) (b ∷ []) (bytesOf rest))
+            ∙ ap (λ (l : List ℕ). l ++ bytesOf rest) (sym front);
         untouched =
-          drop-set-lt (count + 1) buffer count b (omega arith)
-          ∙ sym (drop-drop 1 count buffer)
-          ∙ ap (λ (l : List ℕ). drop 1 l) (u .untouched)
-          ∙ drop-drop 1 count before;
+            drop-set-lt (count + 1) buffer count b (omega arith)
+            ∙ sym (drop-drop 1 count buffer)
+            ∙ ap (λ (l : List ℕ). drop 1 l) (u .untouched)
+            ∙ drop-drop 1 count before;
         size = length-set buffer count b ∙ u .size;
         breaks =
-          u .breaks
-          ∙ ap (λ (r : Rest P F). brokenOff (room - count) r) is
-          ∙ ap (λ (n : ℕ). brokenOff n (byte b (found .0) rest)) (one-more room count h)
-          ∙ breaks-on (room - (count + 1)) b (found .0) rest;
+            u .breaks
+            ∙ ap (λ (r : Rest P F). brokenOff (room - count) r) is
+            ∙ ap (λ (n : ℕ). brokenOff n (byte b (found .0) rest)) (one-more room count h)
+            ∙ breaks-on (room - (count + 1)) b (found .0) rest;
         left =
-          u .left
-          ∙ ap (λ (r : Rest P F). afterBytes (room - count) r) is
-          ∙ ap (λ (n : ℕ). afterBytes n (byte b (found .0) rest)) (one-more room count h)
-          ∙ left-on (room - (count + 1)) b (found .0) rest
+            u .left
+            ∙ ap (λ (r : Rest P F). afterBytes (room - count) r) is
+            ∙ ap (λ (n : ℕ). afterBytes n (byte b (found .0) rest)) (one-more room count h)
+            ∙ left-on (room - (count + 1)) b (found .0) rest;
       }
 
   pub moved :
@@ -211,7 +211,7 @@ module _ {P F : Type 0} where
   all-copied {room} {count} {start} {now} {before} {buffer} u e small told =
       let is = end-told now told in
       let bytes : bytesOf start ≡ take count buffer =
-          u .filled ∙ ap (λ (r : Rest P F). take count buffer ++ bytesOf r) is ∙ ap (λ (l : List ℕ). take count buffer ++ l) (no-bytes P F) ∙ append-nil (take count buffer)
+      u .filled ∙ ap (λ (r : Rest P F). take count buffer ++ bytesOf r) is ∙ ap (λ (l : List ℕ). take count buffer ++ l) (no-bytes P F) ∙ append-nil (take count buffer)
       in
       let size : length (take count buffer) ≡ count = length-take-le count buffer (omega arith) in
       ap (λ (o : Option (LoadFault P F)). outcome o (bytesOf start) before (afterBytes (roomOf before) start))
@@ -219,7 +219,7 @@ module _ {P F : Type 0} where
       ∙ result
       (ap Ok (ap length bytes ∙ size))
       (ap (λ (l : List ℕ). l ++ drop (length l) before) bytes
-        ∙ ap (λ (n : ℕ). take count buffer ++ drop n before) size
-        ∙ ap (λ (l : List ℕ). take count buffer ++ l) (sym (u .untouched))
-        ∙ take-append-drop count buffer)
+      ∙ ap (λ (n : ℕ). take count buffer ++ drop n before) size
+      ∙ ap (λ (l : List ℕ). take count buffer ++ l) (sym (u .untouched))
+      ∙ take-append-drop count buffer)
       (ap (λ (n : ℕ). afterBytes n start) (sym e) ∙ u .left ∙ ap (λ (r : Rest P F). afterBytes (room - count) r) is ∙ left-at-end (room - count) ∙ sym (ap afterNext is))

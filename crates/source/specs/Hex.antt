@@ -38,11 +38,11 @@ unfoldable mutual
   between [] at = end
   between (c ∷ cs) at =
       elim (digitOf c) [
-        Some high ↦ second cs high at
-      | None ↦
-          cond (blank c) (between cs (advanced c at)) (
-          cond (eqb c 0x23) (comment cs (advanced c at)) (
-          fault (BadCharacter at)))
+        | Some high ↦ second cs high at
+        | None ↦
+            cond (blank c) (between cs (advanced c at)) (
+            cond (eqb c 0x23) (comment cs (advanced c at)) (
+            fault (BadCharacter at)))
       ]
 
   -- the text after a first digit, which stands at `at`
@@ -50,8 +50,8 @@ unfoldable mutual
   second [] high at = fault (LoneDigit at)
   second (d ∷ cs) high at =
       elim (digitOf d) [
-        Some low ↦ byte (high * 16 + low) at (between cs (right (right at)))
-      | None ↦ fault (LoneDigit at)
+        | Some low ↦ byte (high * 16 + low) at (between cs (right (right at)))
+        | None ↦ fault (LoneDigit at)
       ]
 
   -- the text from a position within a comment on

@@ -47,7 +47,10 @@ impl<'a> HexText<'a> {
         ensures { λ r. ⌜ between (drop (r .cursor .offset) (now (r .text))) (r .cursor .at) ≡ hexText (now (text .entry)) ⌝ }
     {
         let at = Position { line: 1, column: 1 };
-        HexText { text, cursor: Cursor { offset: 0, at } }
+        HexText {
+            text,
+            cursor: Cursor { offset: 0, at },
+        }
     }
 }
 
@@ -79,11 +82,20 @@ impl Cursor {
     {
         let at = self.at;
         let next = if c == b'\n' {
-            Position { line: at.line + 1, column: 1 }
+            Position {
+                line: at.line + 1,
+                column: 1,
+            }
         } else {
-            Position { line: at.line, column: at.column + 1 }
+            Position {
+                line: at.line,
+                column: at.column + 1,
+            }
         };
-        Cursor { offset: self.offset + 1, at: next }
+        Cursor {
+            offset: self.offset + 1,
+            at: next,
+        }
     }
 
     // The cursor behind the byte whose first digit it stands at.
@@ -93,8 +105,14 @@ impl Cursor {
         requires { ⌜ self .at .column ≤ self .offset + 1 ⌝ }
         ensures { λ r. ⌜ r ≡ record { offset = self .offset + 2; at = right (right (self .at)) } ⌝ }
     {
-        let at = Position { line: self.at.line, column: self.at.column + 2 };
-        Cursor { offset: self.offset + 2, at }
+        let at = Position {
+            line: self.at.line,
+            column: self.at.column + 2,
+        };
+        Cursor {
+            offset: self.offset + 2,
+            at,
+        }
     }
 }
 
@@ -144,6 +162,7 @@ fn byte_at(text: &[u8], here: Cursor) -> Result<Option<u8>, TextFault>
 
 pub impl Source for HexText<'_> as HexTextSource {
     type Place = Position;
+
     type Fault = TextFault;
 
     ghost rest = { λ s. between (drop (s .cursor .offset) (now (s .text))) (s .cursor .at) };

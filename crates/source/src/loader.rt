@@ -39,16 +39,25 @@ impl Drop for Guard<'_> {
         if !self.complete {
             self.bytes.fill(0);
         }
-        let Guard { bytes: _, complete: _ } = self;
+        let Guard {
+            bytes: _,
+            complete: _,
+        } = self;
     }
 }
 
 /// Copies all bytes to come to the front of `buffer`, and answers how many. Where that cannot be, the whole buffer is zero.
-pub fn load<S: Source>(source: &mut S, buffer: &mut [u8]) -> Result<usize, LoadFault<S::Place, S::Fault>>
+pub fn load<S: Source>(
+    source: &mut S,
+    buffer: &mut [u8],
+) -> Result<usize, LoadFault<S::Place, S::Fault>>
     ensures { λ r. ⌜ loaded (rest (now (source .entry))) (now (buffer .entry)) ≡ record { answer = r; memory = now (buffer .exit); left = rest (now (source .exit)) } ⌝ }
 {
     let room = buffer.len().min(LIMIT);
-    let mut guard = Guard { bytes: buffer, complete: false };
+    let mut guard = Guard {
+        bytes: buffer,
+        complete: false,
+    };
     let mut count = 0;
     while count < room {
         let Some(byte) = source.next()? else {

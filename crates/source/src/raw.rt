@@ -26,6 +26,7 @@ impl<'a> Raw<'a> {
 
 pub impl Source for Raw<'_> as RawSource {
     type Place = usize;
+
     type Fault = Infallible;
 
     ghost rest = { λ s. raw (drop (s .offset) (now (s .bytes))) (s .offset) };
@@ -40,7 +41,11 @@ pub impl Source for Raw<'_> as RawSource {
     }
 
     fn place(&self) -> Option<usize> {
-        if self.offset < self.bytes.len() { Some(self.offset) } else { None }
+        if self.offset < self.bytes.len() {
+            Some(self.offset)
+        } else {
+            None
+        }
     }
 }
 

@@ -35,12 +35,30 @@ mod tests {
         loads(b"", 0, [0xAA; 8]).note("empty")?;
         loads(b" \t\r\n", 0, [0xAA; 8]).note("blanks alone")?;
         loads(b"# nothing", 0, [0xAA; 8]).note("a comment that ends with the text")?;
-        loads(b"C0c0fFEe", 4, [0xC0, 0xC0, 0xFF, 0xEE, 0xAA, 0xAA, 0xAA, 0xAA]).note("both cases")?;
-        loads(b"09 AF\taf", 3, [0x09, 0xAF, 0xAF, 0xAA, 0xAA, 0xAA, 0xAA, 0xAA]).note("first and last digits")?;
-        loads(b"12\r\n34\r\n", 2, [0x12, 0x34, 0xAA, 0xAA, 0xAA, 0xAA, 0xAA, 0xAA]).note("0D 0A")?;
-        loads(b"12# 34\r56\n78#", 2, [0x12, 0x78, 0xAA, 0xAA, 0xAA, 0xAA, 0xAA, 0xAA]).note("only 0A ends a comment")?;
+        loads(
+            b"C0c0fFEe",
+            4,
+            [0xC0, 0xC0, 0xFF, 0xEE, 0xAA, 0xAA, 0xAA, 0xAA],
+        ).note("both cases")?;
+        loads(
+            b"09 AF\taf",
+            3,
+            [0x09, 0xAF, 0xAF, 0xAA, 0xAA, 0xAA, 0xAA, 0xAA],
+        ).note("first and last digits")?;
+        loads(
+            b"12\r\n34\r\n",
+            2,
+            [0x12, 0x34, 0xAA, 0xAA, 0xAA, 0xAA, 0xAA, 0xAA],
+        ).note("0D 0A")?;
+        loads(
+            b"12# 34\r56\n78#",
+            2,
+            [0x12, 0x78, 0xAA, 0xAA, 0xAA, 0xAA, 0xAA, 0xAA],
+        ).note("only 0A ends a comment")?;
         loads(b"0102030405060708", 8, [1, 2, 3, 4, 5, 6, 7, 8]).note("full")?;
-        loads(b"0102030405060708 \t# full\n", 8, [1, 2, 3, 4, 5, 6, 7, 8]).note("full, then blanks and a comment")
+        loads(b"0102030405060708 \t# full\n", 8, [1, 2, 3, 4, 5, 6, 7, 8]).note(
+            "full, then blanks and a comment",
+        )
     }
 
     #[test]
@@ -64,8 +82,14 @@ mod tests {
         check(matches!(text.place(), Some(Position { line: 2, column: 2 })))?;
         check(matches!(text.next(), Ok(Some(10))))?;
         check(matches!(text.place(), None))?;
-        check(matches!(text.next(), Err(TextFault::BadCharacter(Position { line: 2, column: 5 }))))?;
-        check(matches!(text.next(), Err(TextFault::BadCharacter(Position { line: 2, column: 5 }))))?;
+        check(matches!(
+            text.next(),
+            Err(TextFault::BadCharacter(Position { line: 2, column: 5 }))
+        ))?;
+        check(matches!(
+            text.next(),
+            Err(TextFault::BadCharacter(Position { line: 2, column: 5 }))
+        ))?;
         let mut raw = Raw::new(&[7, 8]);
         check(matches!(raw.next(), Ok(Some(7))))?;
         check(matches!(raw.place(), Some(1)))?;
@@ -96,7 +120,12 @@ mod tests {
     }
 
     // A text of `digits` digits 1 over a buffer of `size` bytes AA: how many bytes of 11, or the fault with a zero buffer.
-    fn many(rt: &LibcRuntime, digits: usize, size: usize, loaded: Result<usize, (u8, usize, usize)>) -> Result<(), Fail> {
+    fn many(
+        rt: &LibcRuntime,
+        digits: usize,
+        size: usize,
+        loaded: Result<usize, (u8, usize, usize)>,
+    ) -> Result<(), Fail> {
         let text = vec![in rt.alloc(); b'1'; digits]?;
         let mut buffer = vec![in rt.alloc(); 0xAAu8; size]?;
         let bytes = buffer.as_mut_slice();

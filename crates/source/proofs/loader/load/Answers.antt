@@ -50,7 +50,7 @@ returns-in-Break-next g c =
 pub returns : need.returns
 returns g c =
     let told : nextOf (g .S·Source .rest (c .loop-count .source)) ≡ Ok None =
-        none-placed (g .S·Source .rest (c .loop-count .source)) (c .in-Continue-next .field-0) (sym (c .in-rest-place .ensures tt)) (sym (c .in-Continue-next .ensures tt .value))
+    none-placed (g .S·Source .rest (c .loop-count .source)) (c .in-Continue-next .field-0) (sym (c .in-rest-place .ensures tt)) (sym (c .in-Continue-next .ensures tt .value))
     in
     all-copied (c .loop-count .inv) (c .min-room .ensures) (omega (arith, c .min-room .ensures)) told
     ∙ result refl (search needs) (sym (c .in-Continue-next .ensures tt .after))
