@@ -39,3 +39,6 @@ module _ (l : Storage) (how : Layout) (after : Storage) (number : ℕ) (is-room 
 
   pub place-known : Known (after .count) number
   place-known big = let e = ap (λ (x : Storage). x .count) is-placed in omega arith
+
+  pub place-blocks : l .count ≤ after .count
+  place-blocks = let e = ap (λ (x : Storage). x .count) is-placed in omega arith

@@ -242,6 +242,7 @@ impl<'a> Memory<'a> {
         ensures same { λ x. ⌜ Unchanged x (storageOf (now (self .entry))) (storageOf (now (self .exit))) ⌝ }
         ensures sound { λ _. ⌜ Sound (storageOf (now (self .exit))) ⌝ }
         ensures named { λ x. ⌜ Names (now (self .exit) .count) (attemptOf x) ⌝ }
+        ensures blocks { λ _. ⌜ now (self .entry) .count ≤ now (self .exit) .count ⌝ }
     {
         let need = (s as usize + 7) / 8;
         if !self.has_room(need) {
@@ -267,6 +268,7 @@ impl<'a> Memory<'a> {
         ensures same { λ x. ⌜ Unchanged x (storageOf (now (self .entry))) (storageOf (now (self .exit))) ⌝ }
         ensures sound { λ _. ⌜ Sound (storageOf (now (self .exit))) ⌝ }
         ensures named { λ x. ⌜ Names (now (self .exit) .count) (attemptOf x) ⌝ }
+        ensures blocks { λ _. ⌜ now (self .entry) .count ≤ now (self .exit) .count ⌝ }
     {
         if n >= 2147483648 {
             return Err(Stop::Length);

@@ -38,7 +38,7 @@ within-same : (how : Layout) (start b o k : ℕ) → 0 < k → Same (Found how b
 within-same (single s) start b o k pos = within-tests (single s) start b o k pos (ltb o 0) (ltb s (o + k)) (eqb (o % k) 0) refl
 within-same (array n s) start b o k pos = within-tests (array n s) start b o k pos (ltb o 8) (ltb (8 + n * s) (o + k)) (eqb (o % k) 0) refl
 
-module _ (h : Heap) (l : Storage) (m : Match h l) (n : ℕ) (known : Known (l .count) n) where
+module _ (cells records : ℕ) (h : Heap) (l : Storage) (m : Match cells records h l) (n : ℕ) (known : Known (l .count) n) where
   -- the spot of a reference, and the index of the cell that its number leads to
   record Here (p : Spot) (j : ℕ) : Type 0 where
     there : p .block < l .count
@@ -126,32 +126,32 @@ module _ (h : Heap) (l : Storage) (m : Match h l) (n : ℕ) (known : Known (l .c
           names-numberIn (cellIn l b) (m .sound .names b lt)
       go stop = tt
 
-  put-same : (p : Spot) (j : ℕ) → Here p j → (o : Attempt Cell) → Puts (l .count) o → Same Match (stored h p (contents o)) (storedIn l j o)
+  put-same : (p : Spot) (j : ℕ) → Here p j → (o : Attempt Cell) → Puts (l .count) o → Same (Match cells records) (stored h p (contents o)) (storedIn l j o)
   put-same p j r (gives c) ok =
-      give (subst (λ i. Match (putAt h p (contentOf c)) (withCell l i c)) (sym (r .index-is))
-      (match-withCell h l m (p .block) (p .cell) (r .there) (r .short) c ok))
+      give (subst (λ i. Match cells records (putAt h p (contentOf c)) (withCell l i c)) (sym (r .index-is))
+      (match-withCell cells records h l m (p .block) (p .cell) (r .there) (r .short) c ok))
   put-same p j r (stops e) ok = stop
 
   stores : {x : Attempt Spot} {y : Attempt ℕ} (f : Spot → Attempt Content) (g : ℕ → Attempt Cell)
       → ((p : Spot) (j : ℕ) → Here p j → f p ≡ contents (g j)) → ((j : ℕ) → Puts (l .count) (g j)) → Same Here x y
-      → Same Match (andThen x (λ p. stored h p (f p))) (andThen y (λ j. storedIn l j (g j)))
+      → Same (Match cells records) (andThen x (λ p. stored h p (f p))) (andThen y (λ j. storedIn l j (g j)))
   stores f g w k (give {a} {b} r) =
-      subst (λ o. Same Match (stored h a o) (storedIn l b (g b))) (sym (w a b r)) (put-same a b r (g b) (k b))
+      subst (λ o. Same (Match cells records) (stored h a o) (storedIn l b (g b))) (sym (w a b r)) (put-same a b r (g b) (k b))
   stores f g w k stop = stop
 
-  pub imstore-same : (w : ℕ) → Same Match (imstore h (referenceOf n) w) (storeWord l n w)
+  pub imstore-same : (w : ℕ) → Same (Match cells records) (imstore h (referenceOf n) w) (storeWord l n w)
   imstore-same w =
       stores (λ p. writeWord (cellAt h p) (p .byte) w) (λ j. wordInto (cellIn l j) (n % 8) w)
       (λ p j r. ap₂ (λ x y. writeWord x y w) (cellAt-contentOf p j r) (r .byte-is) ∙ writeWord-contentOf (cellIn l j) (n % 8) w)
       (λ j. puts-wordInto (l .count) (cellIn l j) (n % 8) w) (reach-same 4 (omega arith))
 
-  pub cmstore-same : (w : ℕ) → Same Match (cmstore h (referenceOf n) w) (storeByte l n w)
+  pub cmstore-same : (w : ℕ) → Same (Match cells records) (cmstore h (referenceOf n) w) (storeByte l n w)
   cmstore-same w =
       stores (λ p. writeByte (cellAt h p) (p .byte) w) (λ j. byteInto (cellIn l j) (n % 8) w)
       (λ p j r. ap₂ (λ x y. writeByte x y w) (cellAt-contentOf p j r) (r .byte-is) ∙ writeByte-contentOf (cellIn l j) (n % 8) w)
       (λ j. puts-byteInto (l .count) (cellIn l j) (n % 8) w) (reach-same 1 (omega arith))
 
-  pub amstore-same : (v : ℕ) → Known (l .count) v → Same Match (amstore h (referenceOf n) (referenceOf v)) (storeReference l n v)
+  pub amstore-same : (v : ℕ) → Known (l .count) v → Same (Match cells records) (amstore h (referenceOf n) (referenceOf v)) (storeReference l n v)
   amstore-same v kv =
       let small = known-small l (m .sound) v kv in
       stores (λ p. writeReference (cellAt h p) (referenceOf v)) (λ j. numberInto (cellIn l j) v)

@@ -14,7 +14,7 @@ use Rattle.heap.specs.Storage.{Storage, Known, referenceOf, blockOf, offsetOf,
 use Rattle.heap.specs.Relation.{references, Names, Match}
 use Rattle.heap.proofs.Numbering.{referenceOf-block}
 
-module _ (h : Heap) (l : Storage) (m : Match h l) (n : ℕ) (known : Known (l .count) n) where
+module _ (cells records : ℕ) (h : Heap) (l : Storage) (m : Match cells records h l) (n : ℕ) (known : Known (l .count) n) where
   abbrev bySorts : Bool → Bool → Reference
   bySorts e f = cond e null (cond f (text (n - 1)) (block (blockOf n) (offsetOf n)))
 

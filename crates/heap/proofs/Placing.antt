@@ -16,7 +16,7 @@ use Rattle.heap.specs.Checked.{block, Allocation, Layout, single, array, Block
 use Rattle.heap.specs.Storage.{Storage, Placement, noCell, noRecord, recordIn, recordOf, referenceOf, placed, place, newArray}
 use Rattle.heap.specs.Relation.{contentOf, Lies, Match, Same, give, stop, Allocated}
 use Rattle.heap.proofs.Numbering.{referenceOf-block}
-use Rattle.heap.proofs.Clearing.{laid-below, laid-in, length-fresh}
+use Rattle.heap.proofs.Clearing.{length-laid, laid-below, laid-in, length-fresh}
 use Rattle.heap.proofs.Soundness.{sound-placed}
 
 total-append : (h : Heap) (x : Block) → total (h ++ (x ∷ [])) ≡ total h + length (x .cells)
@@ -27,7 +27,7 @@ start-recordOf : (how : Layout) (i : ℕ) → recordOf i how .start ≡ i
 start-recordOf (single s) i = refl
 start-recordOf (array n s) i = refl
 
-module _ (h : Heap) (l : Storage) (m : Match h l) (how : Layout)
+module _ (cells records : ℕ) (h : Heap) (l : Storage) (m : Match cells records h l) (how : Layout)
     (fits : l .used + room how ≤ length (l .cells)) (free : l .count < length (l .records)) where
   abbrev after : Heap
   after = h ++ (freshBlock how ∷ [])
@@ -93,9 +93,11 @@ module _ (h : Heap) (l : Storage) (m : Match h l) (how : Layout)
       (sym (old-record b bl)) (sym (old-block b bl))
       (subst (λ x. recordIn l b .start + room (blockAt h b .layout) ≤ x) (sym new-start) (m .lies b bl .ends))
 
-  match-placed : Match after built
+  match-placed : Match cells records after built
   match-placed =
       record {
+        cells-are = length-laid (l .cells) (l .used) how ∙ m .cells-are;
+        records-are = length-set (l .records) (l .count) (recordOf (l .used) how) ∙ m .records-are;
         sound = sound-placed l how (m .sound) fits free;
         blocks = length-append h (freshBlock how ∷ []) ∙ ap (λ n. n + 1) (m .blocks);
         all = let e = total-append h (freshBlock how) in let f = length-fresh how in let g = m .all in omega arith;
@@ -105,7 +107,7 @@ module _ (h : Heap) (l : Storage) (m : Match h l) (how : Layout)
             (λ x xl bx. old-apart b x bx xl) (λ bx. new-apart b bx) c cl bc;
       }
 
-  pub allocated-placed : Allocated (record { heap = after; reference = block (length h) 0 }) (record { storage = built; number = (l .count + 1) * 2 ^ 32 })
+  pub allocated-placed : Allocated cells records (record { heap = after; reference = block (length h) 0 }) (record { storage = built; number = (l .count + 1) * 2 ^ 32 })
   allocated-placed =
       record {
         match = match-placed;
@@ -115,10 +117,10 @@ module _ (h : Heap) (l : Storage) (m : Match h l) (how : Layout)
         known = λ _. omega arith;
       }
 
-module _ (h : Heap) (l : Storage) (m : Match h l) where
-  pub allocate-same : (how : Layout) → Same Allocated (allocate (length (l .cells)) (length (l .records)) h how) (place l how)
-  allocate-same how =
-      subst₂ (λ x y. Same Allocated
+module _ (cells records : ℕ) (h : Heap) (l : Storage) (m : Match cells records h l) where
+  allocate-lent : (how : Layout) → Same (Allocated cells records) (allocate (length (l .cells)) (length (l .records)) h how) (place l how)
+  allocate-lent how =
+      subst₂ (λ x y. Same (Allocated cells records)
       (cond (leb (x + room how) (length (l .cells)))
       (cond (ltb y (length (l .records))) (gives (record { heap = h ++ (freshBlock how ∷ []); reference = block (length h) 0 })) (stops Cells))
       (stops Cells))
@@ -126,18 +128,23 @@ module _ (h : Heap) (l : Storage) (m : Match h l) where
       (go (leb (l .used + room how) (length (l .cells))) (ltb (l .count) (length (l .records))) refl refl)
     where
       go : (t u : Bool) → leb (l .used + room how) (length (l .cells)) ≡ t → ltb (l .count) (length (l .records)) ≡ u
-          → Same Allocated
+          → Same (Allocated cells records)
           (cond t (cond u (gives (record { heap = h ++ (freshBlock how ∷ []); reference = block (length h) 0 })) (stops Cells)) (stops Cells))
           (cond (cond t u false) (gives (record { storage = placed l how; number = (l .count + 1) * 2 ^ 32 })) (stops Cells))
       go true true e f =
-          give (allocated-placed h l m how (leb-true (l .used + room how) (length (l .cells)) e) (ltb-true (l .count) (length (l .records)) f))
+          give (allocated-placed cells records h l m how (leb-true (l .used + room how) (length (l .cells)) e)
+          (ltb-true (l .count) (length (l .records)) f))
       go true false e f = stop
       go false u e f = stop
 
-  pub newarray-same : (s n : ℕ) → Same Allocated (newarray (length (l .cells)) (length (l .records)) h s n) (newArray l s n)
+  pub allocate-same : (how : Layout) → Same (Allocated cells records) (allocate cells records h how) (place l how)
+  allocate-same how =
+      subst₂ (λ x y. Same (Allocated cells records) (allocate x y h how) (place l how)) (m .cells-are) (m .records-are) (allocate-lent how)
+
+  pub newarray-same : (s n : ℕ) → Same (Allocated cells records) (newarray cells records h s n) (newArray l s n)
   newarray-same s n = go (ltb n (2 ^ 31))
     where
       go : (t : Bool)
-          → Same Allocated (cond t (allocate (length (l .cells)) (length (l .records)) h (array n s)) (stops Length)) (cond t (place l (array n s)) (stops Length))
+          → Same (Allocated cells records) (cond t (allocate cells records h (array n s)) (stops Length)) (cond t (place l (array n s)) (stops Length))
       go true = allocate-same (array n s)
       go false = stop

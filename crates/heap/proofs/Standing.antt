@@ -1,5 +1,5 @@
 -- The theorem from its parts: empty storage represents the empty heap, and every memory instruction agrees.
-use mathlib.Core.Path.{_≡_, sym}
+use mathlib.Core.Path.{_≡_, refl, sym}
 use mathlib.Core.List.{[]}
 use Prim.Native.Nat.{ℕ, _<_, _^_}
 use native.Mathlib.Omega.{arith}
@@ -14,9 +14,11 @@ use Rattle.heap.proofs.Placing.{allocate-same, newarray-same}
 use Rattle.heap.proofs.Accesses.{imload-same, cmload-same, amload-same, amload-names, imstore-same, cmstore-same, amstore-same}
 use Rattle.heap.proofs.Addresses.{arraylength-same, aadds-same, aaddf-same}
 
-match-empty : (l : Storage) → l .used ≡ 0 → l .count ≡ 0 → length (l .cells) < 2 ^ 28 → length (l .records) < 2 ^ 31 → Match [] l
+match-empty : (l : Storage) → l .used ≡ 0 → l .count ≡ 0 → length (l .cells) < 2 ^ 28 → length (l .records) < 2 ^ 31 → Match (length (l .cells)) (length (l .records)) [] l
 match-empty l u c k r =
     record {
+      cells-are = refl;
+      records-are = refl;
       sound = sound-empty l u c k r;
       blocks = sym c;
       all = sym u;
@@ -28,18 +30,18 @@ pub stands : Stands
 stands =
     record {
       begins = match-empty;
-      allocates = λ h l m. record { news = λ s. allocate-same h l m (single s); newarrays = newarray-same h l m };
-      answers = λ h l m n k.
+      allocates = λ cells records h l m. record { news = λ s. allocate-same cells records h l m (single s); newarrays = newarray-same cells records h l m };
+      answers = λ cells records h l m n k.
           record {
-            arraylengths = arraylength-same h l m n k;
-            aaddss = aadds-same h l m n k;
-            aaddfs = aaddf-same h l m n k;
-            imloads = imload-same h l m n k;
-            cmloads = cmload-same h l m n k;
-            amloads = (amload-same h l m n k, amload-names h l m n k);
-            imstores = imstore-same h l m n k;
-            cmstores = cmstore-same h l m n k;
-            amstores = amstore-same h l m n k;
+            arraylengths = arraylength-same cells records h l m n k;
+            aaddss = aadds-same cells records h l m n k;
+            aaddfs = aaddf-same cells records h l m n k;
+            imloads = imload-same cells records h l m n k;
+            cmloads = cmload-same cells records h l m n k;
+            amloads = (amload-same cells records h l m n k, amload-names cells records h l m n k);
+            imstores = imstore-same cells records h l m n k;
+            cmstores = cmstore-same cells records h l m n k;
+            amstores = amstore-same cells records h l m n k;
           };
       numbers = numberOf-referenceOf;
     }

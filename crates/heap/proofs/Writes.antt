@@ -21,7 +21,7 @@ total-set [] b x e lt = refl
 total-set (y ∷ h) zero x e lt = ap (λ n. n + total h) e
 total-set (y ∷ h) (suc b) x e lt = ap (λ n. length (y .cells) + n) (total-set h b x e (omega arith))
 
-module _ (h : Heap) (l : Storage) (m : Match h l) (b j : ℕ) (lt : b < l .count) (short : j < room (blockAt h b .layout))
+module _ (cells records : ℕ) (h : Heap) (l : Storage) (m : Match cells records h l) (b j : ℕ) (lt : b < l .count) (short : j < room (blockAt h b .layout))
     (c : Cell) (ok : Naming (l .count) c) where
   abbrev block : Block
   block = record { layout = blockAt h b .layout; cells = set (blockAt h b .cells) j (contentOf c) }
@@ -84,9 +84,11 @@ module _ (h : Heap) (l : Storage) (m : Match h l) (b j : ℕ) (lt : b < l .count
           go′ true p f = absurd (ne (eqb-true x b p))
           go′ false p f = let u = eqb-false x b p in omega arith
 
-  pub match-withCell : Match (set h b block) (withCell l spot c)
+  pub match-withCell : Match cells records (set h b block) (withCell l spot c)
   match-withCell =
       record {
+        cells-are = length-set (l .cells) spot c ∙ m .cells-are;
+        records-are = m .records-are;
         sound = sound-withCell l spot c (m .sound) ok;
         blocks = length-set h b block ∙ m .blocks;
         all = total-set h b block (length-set (blockAt h b .cells) j (contentOf c)) in-blocks ∙ m .all;

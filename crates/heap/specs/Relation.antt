@@ -22,9 +22,11 @@ pub record Lies (mem : List Cell) (used : ℕ) (r : BlockRecord) (b : Block) : T
   pub ends : r .start + room (b .layout) ≤ used
   pub same : (j : ℕ) → j < room (b .layout) → getD (b .cells) j (plain zeros) ≡ contentOf (getD mem (r .start + j) noCell)
 
--- the storage represents the heap: it is as the code relies on, each block lies in its record's cells, none overlaps another,
+-- storage with so many cells and block records in all represents the heap: it is as the code relies on, each block lies in its record's cells, none overlaps another,
 -- and as many cells are used as the blocks take
-pub record Match (h : Heap) (l : Storage) : Type 0 where
+pub record Match (cells records : ℕ) (h : Heap) (l : Storage) : Type 0 where
+  pub cells-are : length (l .cells) ≡ cells
+  pub records-are : length (l .records) ≡ records
   pub sound : Sound l
   pub blocks : length h ≡ l .count
   pub all : total h ≡ l .used
@@ -47,7 +49,7 @@ Names count (gives n) = Known count n
 Names count (stops e) = Unit {0}
 
 -- an allocation on both sides: heaps that match, and one reference
-pub record Allocated (x : Allocation) (y : Placement) : Type 0 where
-  pub match : Match (x .heap) (y .storage)
+pub record Allocated (cells records : ℕ) (x : Allocation) (y : Placement) : Type 0 where
+  pub match : Match cells records (x .heap) (y .storage)
   pub same : x .reference ≡ referenceOf (y .number)
   pub known : Known (y .storage .count) (y .number)
