@@ -2,7 +2,7 @@
 use Rattle.std.specs.declared.option.Option.{Option}
 use Rattle.bytecode.specs.Program.{Signature}
 use Rattle.host.specs.Hosts.{Text, Call}
-use Rattle.host.specs.declared.call.Text.{Text as LentText}
+use Rattle.host.specs.declared.text.Text.{Text as LentText}
 use Rattle.host.specs.declared.call.Call.{Call as LentCall}
 use Rattle.host.specs.declared.call.Signature.{Signature as LentSignature}
 use denote.Ref.{now}

@@ -3,3 +3,4 @@ mod arguments;
 pub mod call;
 pub mod drive;
 pub mod host;
+pub mod text;
