@@ -1,3 +1,3 @@
-pub mod Fitting
-pub mod Driving
 pub mod Finding
+pub mod Writing
+pub mod Spelling

@@ -3,3 +3,4 @@ pub mod View
 pub mod Arguments
 pub mod Drives
 pub mod Lines
+pub mod Lawfulness

@@ -30,7 +30,7 @@ pub data Request : Type 0 where
 -- ## Numbers in tens
 
 -- the digits of n, the most significant first, where there are at most k
-abbrev pub tens : ℕ → ℕ → List ℕ
+unfoldable pub tens : ℕ → ℕ → List ℕ
 tens zero n = []
 tens (suc k) n = cond (ltb n 10) ((48 + n) ∷ []) (tens k (n / 10) ++ ((48 + n % 10) ∷ []))
 
@@ -62,10 +62,13 @@ requestOf call =
 abbrev pub hasRoom : Line → List ℕ → Bool
 hasRoom line bytes = leb (length (line .written) + length bytes) (line .room)
 
--- pick: the longer text, the first if they are equally long; argument 0 is the first reference, argument 1 the second
+-- the longer text, the first if they are equally long: argument 0 is the first reference, argument 1 the second
+abbrev pub longer : List ℕ → List ℕ → Reply
+longer first second = cond (ltb (length first) (length second)) (Reply.Argument 1) (Reply.Argument 0)
+
 abbrev pub lineReplies : Line → Request → Reply
 lineReplies line (write bytes) = cond (hasRoom line bytes) (Reply.Word 0) (stopWith 3)
-lineReplies line (pick first second) = cond (ltb (length first) (length second)) (Reply.Argument 1) (Reply.Argument 0)
+lineReplies line (pick first second) = longer first second
 lineReplies line other = stopWith 0
 
 abbrev pub lineBecomes : Line → Request → Line

@@ -6,6 +6,7 @@ ghost use Prim.Native.Nat.{ℕ};
 ghost use lib.ListN.{replicate, set};
 ghost use lib.Dec.{ltb};
 ghost use Rattle.host.specs.Drives.{driveHost, reading};
+ghost use Rattle.host.specs.Lawfulness.{drive-lawful};
 
 use bytecode::kind::Kind;
 use bytecode::stop::HostFault;
@@ -63,6 +64,8 @@ pub impl Host for Drive as DriveHost {
     ghost state = { λ drive. drive .words };
 
     ghost make = { driveHost };
+
+    ghost lawful = { drive-lawful };
 
     fn signature(&self, index: u16) -> Option<Signature<'_>> {
         match index {

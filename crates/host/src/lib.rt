@@ -3,4 +3,6 @@ mod arguments;
 pub mod call;
 pub mod drive;
 pub mod host;
+pub mod line;
+mod tens;
 pub mod text;
