@@ -1,0 +1,3 @@
+pub mod Finding
+pub mod Writing
+pub mod Spelling

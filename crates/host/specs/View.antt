@@ -2,9 +2,12 @@
 use Rattle.std.specs.declared.option.Option.{Option}
 use Rattle.bytecode.specs.Program.{Signature}
 use Rattle.host.specs.Hosts.{Text, Call}
-use Rattle.host.specs.declared.call.Text.{Text as LentText}
+use Rattle.host.specs.declared.text.Text.{Text as LentText}
 use Rattle.host.specs.declared.call.Call.{Call as LentCall}
 use Rattle.host.specs.declared.call.Signature.{Signature as LentSignature}
+use Rattle.host.specs.declared.line.Line.{Line as LentLine}
+use Rattle.host.specs.Lines.{Line}
+use lib.ListN.{length, take}
 use denote.Ref.{now}
 
 abbrev pub textOf : LentText → Text
@@ -15,3 +18,7 @@ callOf c = record { index = c .index; arguments = now (c .arguments); first = te
 
 abbrev pub signatureOf : LentSignature → Signature
 signatureOf g = record { arguments = now (g .arguments); result = g .result }
+
+-- a line host's state: its buffer's length and the bytes written there
+abbrev pub lineOf : LentLine → Line
+lineOf line = record { room = length (now (line .room)); written = take (line .len) (now (line .room)) }

@@ -2,17 +2,13 @@
 use bytecode::kind::Kind;
 use bytecode::stop::HostFault;
 
+use crate::text::Text;
+
 /// An argument of a call: a word, or a reference, of which a host sees only whether it is null.
 #[derive(Clone, Copy)]
 pub enum Argument {
     Word(u32),
     Reference { null: bool },
-}
-
-/// What a host sees of a text.
-#[derive(Clone, Copy)]
-pub struct Text<'a> {
-    pub bytes: &'a [u8],
 }
 
 /// A call of a native: the index in the host's table, the arguments, and the texts of the first two reference arguments.

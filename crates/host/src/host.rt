@@ -20,7 +20,8 @@ pub trait Host {
 
     ghost make: { Make State };
 
-    law lawful: { Lawful make };
+    // the make keeps the laws
+    ghost lawful: { Lawful make };
 
     /// The kinds of arguments and result for a table index. It follows from the make and the index alone.
     fn signature(&self, index: u16) -> Option<Signature<'_>>
