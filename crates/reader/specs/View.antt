@@ -1,0 +1,110 @@
+-- What a package that was read stands for, and what is known of it.
+use Prim.Native.Nat.{ℕ, _+_, _-_, _*_, _<_, _≤_}
+use mathlib.Core.Path.{_≡_}
+use mathlib.Core.List.{List, [], _∷_, map}
+use denote.Ref.{now}
+use lib.ListN.{length, getD, take}
+use Rattle.std.specs.Iters.{counting}
+use Rattle.std.specs.shelf.Lists.{All}
+use Rattle.bytecode.specs.declared.kind.Kind.{Kind}
+use Rattle.bytecode.specs.declared.kind.Kind.the-variants.{Unknown, Word, Reference}
+use Rattle.bytecode.specs.Program as program
+use Rattle.bytecode.specs.Program.{Signature, Program}
+use Rattle.reader.specs.declared.package.Package.{Package}
+use Rattle.reader.specs.declared.package.Function.{Function}
+use Rattle.reader.specs.declared.package.Native.{Native}
+use Rattle.reader.specs.Fields.{byte, four, bytesFrom}
+use Rattle.reader.specs.Layout.{FunctionEntry, NativeEntry, kindOf, signatureFrom}
+
+-- ## What is read where a record of the package says
+
+abbrev pub functionEntryOf : List ℕ → Function → FunctionEntry
+functionEntryOf bs f = record { arguments = f .arguments; variables = f .variables; code = bytesFrom bs (f .code) (f .size) }
+
+abbrev pub functionSignatureOf : List ℕ → Function → Signature
+functionSignatureOf bs f = signatureFrom bs (f .kinds) (f .arguments)
+
+abbrev pub functionOf : List ℕ → Function → program.Function
+functionOf bs f = record { signature = functionSignatureOf bs f; variables = f .variables; code = bytesFrom bs (f .code) (f .size) }
+
+abbrev pub nativeEntryOf : Native → NativeEntry
+nativeEntryOf f = record { arguments = f .arguments; index = f .index }
+
+abbrev pub nativeSignatureOf : List ℕ → Native → Signature
+nativeSignatureOf bs f = signatureFrom bs (f .kinds) (f .arguments)
+
+abbrev pub nativeOf : List ℕ → Native → program.Native
+nativeOf bs f = record { signature = nativeSignatureOf bs f; index = f .index }
+
+-- n integers, the first of them at p
+abbrev pub integersFrom : List ℕ → ℕ → ℕ → List ℕ
+integersFrom bs p n = map (λ k. four bs (p + 4 * k)) (counting 0 n)
+
+abbrev pub programOf : Package → Program
+programOf p =
+    record
+      { integers = integersFrom (now (p .bytes)) (p .integers) (p .«integer_count»)
+      ; strings = bytesFrom (now (p .bytes)) (p .strings) (p .«string_size»)
+      ; functions = map (functionOf (now (p .bytes))) (take (p .«function_count») (p .functions))
+      ; natives = map (nativeOf (now (p .bytes))) (take (p .«native_count») (p .natives)) }
+
+-- what stands past the end of a list
+abbrev pub noSignature : Signature
+noSignature = record { arguments = []; result = Unknown }
+
+abbrev pub noFunction : program.Function
+noFunction = record { signature = noSignature; variables = 0; code = [] }
+
+abbrev pub noNative : program.Native
+noNative = record { signature = noSignature; index = 0 }
+
+abbrev pub noFunctionRecord : Function
+noFunctionRecord = record { arguments = 0; variables = 0; code = 0; size = 0; kinds = 0 }
+
+abbrev pub noNativeRecord : Native
+noNativeRecord = record { arguments = 0; index = 0; kinds = 0 }
+
+-- ## What the checks leave
+
+-- a function within the limits, its code inside the bytes
+pub record FunctionFits (bs : List ℕ) (f : Function) : Type 0 where
+  pub some : 0 < f .size
+  pub few : f .size ≤ 4096
+  pub inside : f .code + f .size ≤ length bs
+  pub narrow : f .variables ≤ 32
+  pub ordered : f .arguments ≤ f .variables
+
+-- a function's letters inside the bytes
+abbrev pub FunctionLettered : List ℕ → Function → Type 0
+FunctionLettered bs f = f .kinds + 1 + f .arguments ≤ length bs
+
+-- a native within the limits, and its letters inside the bytes
+abbrev pub NativeFits : Native → Type 0
+NativeFits f = f .arguments ≤ 4
+
+abbrev pub NativeLettered : List ℕ → Native → Type 0
+NativeLettered bs f = f .kinds + 1 + f .arguments ≤ length bs
+
+-- the code bytes of a program's functions
+abbrev pub codeSize : List program.Function → ℕ
+codeSize [] = 0
+codeSize (f ∷ fs) = length (f .code) + codeSize fs
+
+-- what is known of every package that was read
+pub record Fitting (p : Package) : Type 0 where
+  pub functionRoom : length (p .functions) ≡ 64
+  pub nativeRoom : length (p .natives) ≡ 32
+  pub someFunctions : 0 < p .«function_count»
+  pub fewFunctions : p .«function_count» ≤ 64
+  pub fewNatives : p .«native_count» ≤ 32
+  pub integersInside : p .integers + 4 * p .«integer_count» ≤ length (now (p .bytes))
+  pub stringsInside : p .strings + p .«string_size» ≤ length (now (p .bytes))
+  pub stringsEnd : 0 < p .«string_size» → byte (now (p .bytes)) (p .strings + p .«string_size» - 1) ≡ 0
+  pub functionsFit : All (FunctionFits (now (p .bytes))) (take (p .«function_count») (p .functions))
+  pub functionsLettered : All (FunctionLettered (now (p .bytes))) (take (p .«function_count») (p .functions))
+  pub nativesFit : All NativeFits (take (p .«native_count») (p .natives))
+  pub nativesLettered : All (NativeLettered (now (p .bytes))) (take (p .«native_count») (p .natives))
+  pub codeSum : codeSize (programOf p .functions) ≡ p .«code_size»
+  pub fewCode : p .«code_size» ≤ 4096
+  pub mainTakes : getD (programOf p .functions) 0 noFunction .signature .arguments ≡ []
+  pub mainGives : getD (programOf p .functions) 0 noFunction .signature .result ≡ Word

@@ -1,0 +1,4 @@
+// Reads a package and its sheet, field by field.
+mod field;
+pub mod package;
+mod pool;
