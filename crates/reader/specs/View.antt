@@ -14,7 +14,7 @@ use Rattle.reader.specs.declared.package.Package.{Package}
 use Rattle.reader.specs.declared.package.Function.{Function}
 use Rattle.reader.specs.declared.package.Native.{Native}
 use Rattle.reader.specs.Fields.{byte, four, bytesFrom}
-use Rattle.reader.specs.Layout.{FunctionEntry, NativeEntry, kindOf, signatureFrom}
+use Rattle.reader.specs.Layout.{FunctionEntry, NativeEntry, codeBytes, signatureFrom}
 
 -- ## What is read where a record of the package says
 
@@ -73,6 +73,13 @@ pub record FunctionFits (bs : List ℕ) (f : Function) : Type 0 where
   pub inside : f .code + f .size ≤ length bs
   pub narrow : f .variables ≤ 32
   pub ordered : f .arguments ≤ f .variables
+
+-- functions within the limits: their codes have so many bytes together, and the first has no arguments
+pub record FunctionsFit (bs : List ℕ) (fs : List Function) (size : ℕ) : Type 0 where
+  pub each : All (FunctionFits bs) fs
+  pub sum : codeBytes (map (functionEntryOf bs) fs) ≡ size
+  pub little : size ≤ 4096
+  pub main : getD fs 0 noFunctionRecord .arguments ≡ 0
 
 -- a function's letters inside the bytes
 abbrev pub FunctionLettered : List ℕ → Function → Type 0

@@ -2,3 +2,4 @@
 mod field;
 pub mod package;
 mod pool;
+mod sheet;

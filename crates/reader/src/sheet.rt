@@ -1,0 +1,70 @@
+// The sheet of a package: a record of kinds for each function and each native.
+ghost use mathlib.Core.Path.{_≡_};
+ghost use mathlib.Core.Bool.{Bool, true, false};
+ghost use mathlib.Core.List.{map};
+ghost use Prim.Native.Nat.{ℕ, _+_, _<_, _≤_};
+ghost use lib.ListN.{length, getD, take};
+ghost use Rattle.std.specs.Vec.{made};
+ghost use Rattle.std.specs.shelf.Lists.{All};
+ghost use Rattle.bytecode.specs.Outcome.{told};
+ghost use Rattle.bytecode.specs.declared.kind.Kind.the-variants.{Word};
+ghost use Rattle.reader.specs.Fields.{byte as byteOf};
+ghost use Rattle.reader.specs.Layout.{isLetter, areLetters, kindOf, signatureFrom, recordAt, functionSheetAt, nativeSheetAt};
+ghost use Rattle.reader.specs.View.{functionEntryOf, functionSignatureOf, nativeEntryOf, nativeSignatureOf, noFunctionRecord, FunctionFits, FunctionLettered, NativeFits, NativeLettered};
+
+use bytecode::refusal::FieldFault;
+use bytecode::refusal::Refusal;
+use crate::field::pair_low;
+use crate::package::Function;
+use crate::package::Native;
+
+// The letters of kinds in a sheet.
+const WORD: u8 = 0x77;
+const REFERENCE: u8 = 0x61;
+
+// The number of a record's sort.
+const FUNCTION: usize = 1;
+const NATIVE: usize = 2;
+
+fn letter(byte: u8) -> bool
+    ensures { λ r. ⌜ r ≡ isLetter byte ⌝ }
+{
+    byte == WORD || byte == REFERENCE
+}
+
+// Whether so many letters stand at an offset.
+fn letters(bytes: &[u8], offset: usize, count: usize) -> bool
+    requires { ⌜ offset + count ≤ length (now bytes) ⌝ }
+    ensures { λ r. ⌜ r ≡ areLetters (now (bytes .entry)) offset count ⌝ }
+{
+    for i in 0..count {
+        if !letter(bytes[offset + i]) {
+            return false;
+        }
+    }
+    true
+}
+
+// A record of a sort for so many arguments, of main or not; answers where its letters stand.
+fn read_record(bytes: &[u8], sort: usize, main: bool, arguments: usize, offset: usize) -> Result<usize, Refusal>
+    requires inside { ⌜ offset ≤ length (now bytes) ⌝ }
+    requires few { ⌜ arguments ≤ 32 ⌝ }
+    ensures met { λ r. ⌜ recordAt (now (bytes .entry)) sort main arguments offset ≡ told (λ q. record { value = signatureFrom (now (bytes .entry)) q arguments; after = q + 1 + arguments }) r ⌝ }
+    ensures room { λ r. ⌜ made r (λ q. q + 1 + arguments ≤ length (now (bytes .entry))) ⌝ }
+    ensures gives { λ r. ⌜ made r (λ q. (main ≡ true → kindOf (byteOf (now (bytes .entry)) q) ≡ Word)) ⌝ }
+{
+    if bytes.len() - offset < 5 + arguments {
+        return Err(Refusal::Field { fault: FieldFault::Sheet, offset });
+    }
+    if pair_low(bytes, offset) != 3 + arguments || pair_low(bytes, offset + 2) != sort {
+        return Err(Refusal::Field { fault: FieldFault::Sheet, offset });
+    }
+    let kinds = offset + 4;
+    if !letters(bytes, kinds, 1 + arguments) {
+        return Err(Refusal::Field { fault: FieldFault::Sheet, offset });
+    }
+    if main && bytes[kinds] != WORD {
+        return Err(Refusal::Field { fault: FieldFault::Sheet, offset });
+    }
+    Ok(kinds)
+}
