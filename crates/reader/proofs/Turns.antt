@@ -5,8 +5,8 @@ use mathlib.Core.List.{List, [], _∷_, _++_, map}
 use mathlib.Core.Bool.{Bool, true, false, cond, _&&_}
 use native.Mathlib.Omega.{arith}
 use lib.ListN.{length, take, drop, set, getD}
-use Rattle.std.proofs.shelf.Lists.{take-more-set, map-push, length-take-le, length-drop}
-use Rattle.std.proofs.shelf.Elements.{all-push}
+use Rattle.std.proofs.shelf.Lists.{take-more-set, map-push, length-take-le, length-drop, length-map, getD-map, getD-take}
+use Rattle.std.proofs.shelf.Elements.{all-push, all-set, all-getD}
 use Rattle.std.proofs.shelf.Counted.{map-counting-more}
 use Rattle.std.specs.shelf.Lists.{All}
 use Rattle.bytecode.specs.Outcome.{Out, good, bad, bind, refuse, Fault}
@@ -15,6 +15,7 @@ use Rattle.reader.specs.Layout.{Read, integerAt, FunctionEntry, codeBytes, isL
 use Rattle.reader.specs.View.{integersFrom, functionEntryOf, noFunctionRecord, FunctionFits, FunctionsFit}
 use Rattle.reader.specs.declared.package.Function.{Function}
 use lib.Dec.{leb}
+use lib.Seq.{take-set-lt, map-set-same}
 
 -- an array that is filled from the front, by what its entries stand for
 pub filled-more : {X Y : Type 0} (f : X → Y) (xs : List X) (i : ℕ) (x : X) → i < length xs →
@@ -75,3 +76,33 @@ functions-more bs fs i size f l h k few main =
       ; sum = ap codeBytes (sym (filled-more (functionEntryOf bs) fs i f l)) ∙ omega (arith, code-push (map (functionEntryOf bs) (take i fs)) (functionEntryOf bs f), h .sum, e)
       ; little = few
       ; main = subst (λ gs. getD gs 0 noFunctionRecord .arguments ≡ 0) (sym (take-more-set fs i f l)) (main-push (take i fs) f (h .main) (λ z. main (sym n ∙ z))) }
+
+-- ## The sheet: an entry is written again, with the place of its letters
+
+pub count-at : {X Y : Type 0} (f : X → Y) (g : Y → ℕ) (xs : List X) (ys : List Y) (n i : ℕ) (d : X) → n ≤ length xs → i < n → map f (take n xs) ≡ ys →
+    getD (map g ys) i 0 ≡ g (f (getD xs i d))
+count-at f g xs ys n i d k l e =
+    let m : length (take n xs) ≡ n = length-take-le n xs k in
+    let j : i < length (take n xs) = omega arith in
+    let h : i < length (map f (take n xs)) = simp length-map j in
+    ap (λ ys. getD (map g ys) i 0) (sym e) ∙ getD-map g (map f (take n xs)) i (f d) 0 h ∙ ap g (getD-map f (take n xs) i d (f d) j) ∙
+    ap (λ x. g (f x)) (getD-take n xs i d l)
+
+pub kept-map : {X Y : Type 0} (f : X → Y) (xs : List X) (ys : List Y) (n i : ℕ) (x d : X) → i < n → f x ≡ f (getD xs i d) → map f (take n xs) ≡ ys →
+    map f (take n (set xs i x)) ≡ ys
+kept-map f xs ys n i x d l e h =
+    ap (map f) (take-set-lt n xs i x l) ∙ map-set-same f (take n xs) i x d (e ∙ ap f (sym (getD-take n xs i d l))) ∙ h
+
+pub kept-all : {X : Type 0} (P : X → Type 0) (xs : List X) (n i : ℕ) (x : X) → i < n → P x → All P (take n xs) → All P (take n (set xs i x))
+kept-all P xs n i x l k h = subst (All P) (sym (take-set-lt n xs i x l)) (all-set P (take n xs) i x k h)
+
+pub all-at : {X : Type 0} (P : X → Type 0) (xs : List X) (n i : ℕ) (d : X) → n ≤ length xs → i < n → All P (take n xs) → P (getD xs i d)
+all-at P xs n i d k l h =
+    let m : length (take n xs) ≡ n = length-take-le n xs k in
+    subst P (getD-take n xs i d l) (all-getD P (take n xs) i d (omega arith) h)
+
+-- the first entry, once it is written
+pub first-set : {X : Type 0} (P : X → Type 0) (xs : List X) (i : ℕ) (x d : X) → i < length xs → (0 < i → P (getD xs 0 d)) → (i ≡ 0 → P x) → P (getD (set xs i x) 0 d)
+first-set P [] i x d l h k = absurd (omega arith)
+first-set P (y ∷ ys) zero x d l h k = k refl
+first-set P (y ∷ ys) (suc i) x d l h k = h (omega arith)

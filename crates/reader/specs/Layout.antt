@@ -69,6 +69,9 @@ pub record FunctionEntry : Type 0 where
   pub variables : ℕ
   pub code : List ℕ
 
+abbrev pub functionArguments : FunctionEntry → ℕ
+functionArguments f = f .arguments
+
 -- the code bytes of functions
 abbrev pub codeBytes : List FunctionEntry → ℕ
 codeBytes [] = 0
@@ -90,6 +93,9 @@ functionsAt bs n p = series (λ i s. functionAt bs i (s .after) (codeBytes (s .v
 pub record NativeEntry : Type 0 where
   pub arguments : ℕ
   pub index : ℕ
+
+abbrev pub nativeArguments : NativeEntry → ℕ
+nativeArguments f = f .arguments
 
 -- a native has at most 4 arguments (13)
 abbrev pub nativeAt : List ℕ → ℕ → Out (Read NativeEntry)
@@ -129,12 +135,12 @@ recordAt bs sort main arguments p =
          (not main || eqb (byte bs (p + 4)) 0x77))))) 15 p
     (good (record { value = signatureFrom bs (p + 4) arguments; after = p + (5 + arguments) }))
 
--- a record for each of these argument counts
-abbrev pub functionSheetAt : List ℕ → List ℕ → ℕ → Out (Read (List Signature))
-functionSheetAt bs counts p = series (λ i s. recordAt bs 1 (eqb i 0) (getD counts i 0) (s .after)) (length counts) p
+-- n records, for functions or natives of these argument counts
+abbrev pub functionSheetAt : List ℕ → ℕ → List ℕ → ℕ → Out (Read (List Signature))
+functionSheetAt bs n counts p = series (λ i s. recordAt bs 1 (eqb i 0) (getD counts i 0) (s .after)) n p
 
-abbrev pub nativeSheetAt : List ℕ → List ℕ → ℕ → Out (Read (List Signature))
-nativeSheetAt bs counts p = series (λ i s. recordAt bs 2 false (getD counts i 0) (s .after)) (length counts) p
+abbrev pub nativeSheetAt : List ℕ → ℕ → List ℕ → ℕ → Out (Read (List Signature))
+nativeSheetAt bs n counts p = series (λ i s. recordAt bs 2 false (getD counts i 0) (s .after)) n p
 
 -- ## The package
 
@@ -156,8 +162,8 @@ packageAt bs =
     (bind (functionsAt bs n (front .after + 2)) (λ functions.
     bind (twoAt bs (functions .after)) (λ m. test (leb m 32) 13 (functions .after)
     (bind (nativesAt bs m (functions .after + 2)) (λ natives.
-    bind (functionSheetAt bs (map (λ f. f .arguments) (functions .value)) (natives .after)) (λ sheet.
-    bind (nativeSheetAt bs (map (λ f. f .arguments) (natives .value)) (sheet .after)) (λ rest.
+    bind (functionSheetAt bs n (map functionArguments (functions .value)) (natives .after)) (λ sheet.
+    bind (nativeSheetAt bs m (map nativeArguments (natives .value)) (sheet .after)) (λ rest.
     test (eqb (rest .after) (length bs)) 15 (rest .after)
     (good (record
       { integers = front .value .integers

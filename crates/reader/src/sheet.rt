@@ -9,7 +9,7 @@ ghost use Rattle.std.specs.shelf.Lists.{All};
 ghost use Rattle.bytecode.specs.Outcome.{told};
 ghost use Rattle.bytecode.specs.declared.kind.Kind.the-variants.{Word};
 ghost use Rattle.reader.specs.Fields.{byte as byteOf};
-ghost use Rattle.reader.specs.Layout.{isLetter, areLetters, kindOf, signatureFrom, recordAt, functionSheetAt, nativeSheetAt};
+ghost use Rattle.reader.specs.Layout.{isLetter, areLetters, kindOf, signatureFrom, recordAt, functionSheetAt, functionArguments, nativeSheetAt, nativeArguments};
 ghost use Rattle.reader.specs.View.{functionEntryOf, functionSignatureOf, nativeEntryOf, nativeSignatureOf, noFunctionRecord, FunctionFits, FunctionLettered, NativeFits, NativeLettered};
 
 use bytecode::refusal::FieldFault;
@@ -67,4 +67,49 @@ fn read_record(bytes: &[u8], sort: usize, main: bool, arguments: usize, offset: 
         return Err(Refusal::Field { fault: FieldFault::Sheet, offset });
     }
     Ok(kinds)
+}
+
+// Reads the records of so many functions, and sets where the letters of each stand.
+pub(crate) fn read_function_sheet(bytes: &[u8], count: usize, offset: usize, list: &mut [Function; 64]) -> Result<usize, Refusal>
+    requires inside { ⌜ offset ≤ length (now bytes) ⌝ }
+    requires few { ⌜ count ≤ 64 ⌝ }
+    requires fit { ⌜ All (FunctionFits (now bytes)) (take count (now list)) ⌝ }
+    ensures met { λ r. ⌜ functionSheetAt (now (bytes .entry)) count (map functionArguments (map (functionEntryOf (now (bytes .entry))) (take count (now (list .entry))))) offset ≡ told (λ q. record { value = map (functionSignatureOf (now (bytes .entry))) (take count (now (list .exit))); after = q }) r ⌝ }
+    ensures room { λ r. ⌜ made r (λ q. q ≤ length (now (bytes .entry))) ⌝ }
+    ensures kept { λ r. ⌜ map (functionEntryOf (now (bytes .entry))) (take count (now (list .exit))) ≡ map (functionEntryOf (now (bytes .entry))) (take count (now (list .entry))) ⌝ }
+    ensures fit { λ r. ⌜ All (FunctionFits (now (bytes .entry))) (take count (now (list .exit))) ⌝ }
+    ensures lettered { λ r. ⌜ made r (λ _. All (FunctionLettered (now (bytes .entry))) (take count (now (list .exit)))) ⌝ }
+    ensures gives { λ r. ⌜ made r (λ _. (0 < count → kindOf (byteOf (now (bytes .entry)) (getD (now (list .exit)) 0 noFunctionRecord .kinds)) ≡ Word)) ⌝ }
+{
+    let mut after = offset;
+    for i in 0..count {
+        let mut function = list[i];
+        let kinds = read_record(bytes, FUNCTION, i == 0, function.arguments as usize, after)?;
+        after = kinds + 1 + function.arguments as usize;
+        function.kinds = kinds;
+        list[i] = function;
+    }
+    Ok(after)
+}
+
+// Reads the records of so many natives, and sets where the letters of each stand.
+pub(crate) fn read_native_sheet(bytes: &[u8], count: usize, offset: usize, list: &mut [Native; 32]) -> Result<usize, Refusal>
+    requires inside { ⌜ offset ≤ length (now bytes) ⌝ }
+    requires few { ⌜ count ≤ 32 ⌝ }
+    requires fit { ⌜ All NativeFits (take count (now list)) ⌝ }
+    ensures met { λ r. ⌜ nativeSheetAt (now (bytes .entry)) count (map nativeArguments (map nativeEntryOf (take count (now (list .entry))))) offset ≡ told (λ q. record { value = map (nativeSignatureOf (now (bytes .entry))) (take count (now (list .exit))); after = q }) r ⌝ }
+    ensures room { λ r. ⌜ made r (λ q. q ≤ length (now (bytes .entry))) ⌝ }
+    ensures kept { λ r. ⌜ map nativeEntryOf (take count (now (list .exit))) ≡ map nativeEntryOf (take count (now (list .entry))) ⌝ }
+    ensures fit { λ r. ⌜ All NativeFits (take count (now (list .exit))) ⌝ }
+    ensures lettered { λ r. ⌜ made r (λ _. All (NativeLettered (now (bytes .entry))) (take count (now (list .exit)))) ⌝ }
+{
+    let mut after = offset;
+    for i in 0..count {
+        let mut native = list[i];
+        let kinds = read_record(bytes, NATIVE, false, native.arguments as usize, after)?;
+        after = kinds + 1 + native.arguments as usize;
+        native.kinds = kinds;
+        list[i] = native;
+    }
+    Ok(after)
 }
