@@ -1,2 +1,4 @@
 mod Repeating
+mod Fits
 mod Turns
+mod Joining

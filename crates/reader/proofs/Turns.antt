@@ -14,6 +14,7 @@ use Rattle.reader.specs.Fields.{byte, four, field, bytesFrom, bytesAt, fourAt}
 use Rattle.reader.specs.Layout.{Read, integerAt, FunctionEntry, codeBytes, isLetter, areLetters}
 use Rattle.reader.specs.View.{integersFrom, functionEntryOf, noFunctionRecord, FunctionFits, FunctionsFit}
 use Rattle.reader.specs.declared.package.Function.{Function}
+use Rattle.reader.proofs.Fits.{bytes-length}
 use lib.Dec.{leb}
 use lib.Seq.{take-set-lt, map-set-same}
 
@@ -55,9 +56,6 @@ letters-turn bs p n i l =
     ap (areLetters bs (p + i)) k ∙ ap (λ q. isLetter (byte bs (p + i)) && areLetters bs q (n - (i + 1))) e
 
 -- one function more
-bytes-length : (bs : List ℕ) (p n : ℕ) → p + n ≤ length bs → length (bytesFrom bs p n) ≡ n
-bytes-length bs p n l = let k : n ≤ length (drop p bs) = simp length-drop (omega arith) in length-take-le n (drop p bs) k
-
 code-push : (fs : List FunctionEntry) (f : FunctionEntry) → codeBytes (fs ++ f ∷ []) ≡ codeBytes fs + length (f .code)
 code-push [] f = omega arith
 code-push (g ∷ fs) f = omega (arith, code-push fs f)
@@ -66,16 +64,20 @@ main-push : (fs : List Function) (f : Function) → getD fs 0 noFunctionRecord .
 main-push [] f h k = k refl
 main-push (g ∷ fs) f h k = h
 
-pub functions-more : (bs : List ℕ) (fs : List Function) (i size : ℕ) (f : Function) → i < length fs → FunctionsFit bs (take i fs) size → FunctionFits bs f → size + f .size ≤ 4096 →
-    (i ≡ 0 → f .arguments ≡ 0) → FunctionsFit bs (take (i + 1) (set fs i f)) (size + f .size)
-functions-more bs fs i size f l h k few main =
-    let e : length (bytesFrom bs (f .code) (f .size)) ≡ f .size = bytes-length bs (f .code) (f .size) (k .inside) in
-    let n : length (take i fs) ≡ i = length-take-le i fs (omega arith) in
-    record
-      { each = filled-all (FunctionFits bs) fs i f l (h .each) k
-      ; sum = ap codeBytes (sym (filled-more (functionEntryOf bs) fs i f l)) ∙ omega (arith, code-push (map (functionEntryOf bs) (take i fs)) (functionEntryOf bs f), h .sum, e)
-      ; little = few
-      ; main = subst (λ gs. getD gs 0 noFunctionRecord .arguments ≡ 0) (sym (take-more-set fs i f l)) (main-push (take i fs) f (h .main) (λ z. main (sym n ∙ z))) }
+module _ (bs : List ℕ) (fs : List Function) (i size : ℕ) (f : Function) (l : i < length fs) where
+  pub code-more : codeBytes (map (functionEntryOf bs) (take i fs)) ≡ size → FunctionFits bs f → codeBytes (map (functionEntryOf bs) (take (i + 1) (set fs i f))) ≡ size + f .size
+  code-more s k =
+      let e : length (bytesFrom bs (f .code) (f .size)) ≡ f .size = bytes-length bs (f .code) (f .size) (k .inside) in
+      ap codeBytes (sym (filled-more (functionEntryOf bs) fs i f l)) ∙ omega (arith, code-push (map (functionEntryOf bs) (take i fs)) (functionEntryOf bs f), s, e)
+
+  pub functions-more : FunctionsFit bs (take i fs) → codeBytes (map (functionEntryOf bs) (take i fs)) ≡ size → FunctionFits bs f → size + f .size ≤ 4096 → (i ≡ 0 → f .arguments ≡ 0) →
+      FunctionsFit bs (take (i + 1) (set fs i f))
+  functions-more h s k few main =
+      let n : length (take i fs) ≡ i = length-take-le i fs (omega arith) in
+      record
+        { each = filled-all (FunctionFits bs) fs i f l (h .each) k
+        ; little = omega (arith, code-more s k)
+        ; main = subst (λ gs. getD gs 0 noFunctionRecord .arguments ≡ 0) (sym (take-more-set fs i f l)) (main-push (take i fs) f (h .main) (λ z. main (sym n ∙ z))) }
 
 -- ## The sheet: an entry is written again, with the place of its letters
 

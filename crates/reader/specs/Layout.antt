@@ -142,8 +142,6 @@ functionSheetAt bs n counts p = series (λ i s. recordAt bs 1 (eqb i 0) (getD co
 abbrev pub nativeSheetAt : List ℕ → ℕ → List ℕ → ℕ → Out (Read (List Signature))
 nativeSheetAt bs n counts p = series (λ i s. recordAt bs 2 false (getD counts i 0) (s .after)) n p
 
--- ## The package
-
 abbrev pub functionsWith : List FunctionEntry → List Signature → List Function
 functionsWith [] ss = []
 functionsWith (f ∷ fs) [] = []
@@ -154,7 +152,22 @@ nativesWith [] ss = []
 nativesWith (f ∷ fs) [] = []
 nativesWith (f ∷ fs) (s ∷ ss) = record { signature = s; index = f .index } ∷ nativesWith fs ss
 
--- 1 to 64 functions, at most 32 natives (13); nothing stands behind the sheet (15)
+-- the functions and the natives with their signatures
+pub record Signed : Type 0 where
+  pub functions : List Function
+  pub natives : List Native
+
+-- the whole sheet of n functions and m natives; nothing stands behind it (15)
+abbrev pub sheetAt : List ℕ → ℕ → List FunctionEntry → ℕ → List NativeEntry → ℕ → Out Signed
+sheetAt bs n functions m natives p =
+    bind (functionSheetAt bs n (map functionArguments functions) p) (λ first.
+    bind (nativeSheetAt bs m (map nativeArguments natives) (first .after)) (λ second.
+    test (eqb (second .after) (length bs)) 15 (second .after)
+    (good (record { functions = functionsWith functions (first .value); natives = nativesWith natives (second .value) }))))
+
+-- ## The package
+
+-- 1 to 64 functions, at most 32 natives (13)
 abbrev pub packageAt : List ℕ → Out Program
 packageAt bs =
     bind (frontAt bs) (λ front.
@@ -162,11 +175,5 @@ packageAt bs =
     (bind (functionsAt bs n (front .after + 2)) (λ functions.
     bind (twoAt bs (functions .after)) (λ m. test (leb m 32) 13 (functions .after)
     (bind (nativesAt bs m (functions .after + 2)) (λ natives.
-    bind (functionSheetAt bs n (map functionArguments (functions .value)) (natives .after)) (λ sheet.
-    bind (nativeSheetAt bs m (map nativeArguments (natives .value)) (sheet .after)) (λ rest.
-    test (eqb (rest .after) (length bs)) 15 (rest .after)
-    (good (record
-      { integers = front .value .integers
-      ; strings = front .value .strings
-      ; functions = functionsWith (functions .value) (sheet .value)
-      ; natives = nativesWith (natives .value) (rest .value) })))))))))))
+    bind (sheetAt bs n (functions .value) m (natives .value) (natives .after)) (λ sheet.
+    good (record { integers = front .value .integers; strings = front .value .strings; functions = sheet .functions; natives = sheet .natives })))))))))

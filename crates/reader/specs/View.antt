@@ -66,6 +66,12 @@ noNativeRecord = record { arguments = 0; index = 0; kinds = 0 }
 
 -- ## What the checks leave
 
+-- integers and strings inside the bytes; strings end with 0
+pub record FrontFits (bs : List ℕ) (integers count strings size : ℕ) : Type 0 where
+  pub integersInside : integers + 4 * count ≤ length bs
+  pub stringsInside : strings + size ≤ length bs
+  pub stringsEnd : 0 < size → byte bs (strings + size - 1) ≡ 0
+
 -- a function within the limits, its code inside the bytes
 pub record FunctionFits (bs : List ℕ) (f : Function) : Type 0 where
   pub some : 0 < f .size
@@ -74,28 +80,38 @@ pub record FunctionFits (bs : List ℕ) (f : Function) : Type 0 where
   pub narrow : f .variables ≤ 32
   pub ordered : f .arguments ≤ f .variables
 
--- functions within the limits: their codes have so many bytes together, and the first has no arguments
-pub record FunctionsFit (bs : List ℕ) (fs : List Function) (size : ℕ) : Type 0 where
+-- functions within the limits; the first is main
+pub record FunctionsFit (bs : List ℕ) (fs : List Function) : Type 0 where
   pub each : All (FunctionFits bs) fs
-  pub sum : codeBytes (map (functionEntryOf bs) fs) ≡ size
-  pub little : size ≤ 4096
+  pub little : codeBytes (map (functionEntryOf bs) fs) ≤ 4096
   pub main : getD fs 0 noFunctionRecord .arguments ≡ 0
 
--- a function's letters inside the bytes
+-- the letters of a function, and of a native, inside the bytes
 abbrev pub FunctionLettered : List ℕ → Function → Type 0
 FunctionLettered bs f = f .kinds + 1 + f .arguments ≤ length bs
 
--- a native within the limits, and its letters inside the bytes
-abbrev pub NativeFits : Native → Type 0
-NativeFits f = f .arguments ≤ 4
-
 abbrev pub NativeLettered : List ℕ → Native → Type 0
 NativeLettered bs f = f .kinds + 1 + f .arguments ≤ length bs
+
+abbrev pub NativeFits : Native → Type 0
+NativeFits f = f .arguments ≤ 4
 
 -- the code bytes of a program's functions
 abbrev pub codeSize : List program.Function → ℕ
 codeSize [] = 0
 codeSize (f ∷ fs) = length (f .code) + codeSize fs
+
+-- functions with their letters: main takes nothing and gives a word
+pub record FunctionsKnown (bs : List ℕ) (fs : List Function) : Type 0 where
+  pub each : All (FunctionFits bs) fs
+  pub lettered : All (FunctionLettered bs) fs
+  pub little : codeSize (map (functionOf bs) fs) ≤ 4096
+  pub takes : getD (map (functionOf bs) fs) 0 noFunction .signature .arguments ≡ []
+  pub gives : getD (map (functionOf bs) fs) 0 noFunction .signature .result ≡ Word
+
+pub record NativesKnown (bs : List ℕ) (fs : List Native) : Type 0 where
+  pub each : All NativeFits fs
+  pub lettered : All (NativeLettered bs) fs
 
 -- what is known of every package that was read
 pub record Fitting (p : Package) : Type 0 where
@@ -104,14 +120,11 @@ pub record Fitting (p : Package) : Type 0 where
   pub someFunctions : 0 < p .«function_count»
   pub fewFunctions : p .«function_count» ≤ 64
   pub fewNatives : p .«native_count» ≤ 32
-  pub integersInside : p .integers + 4 * p .«integer_count» ≤ length (now (p .bytes))
-  pub stringsInside : p .strings + p .«string_size» ≤ length (now (p .bytes))
-  pub stringsEnd : 0 < p .«string_size» → byte (now (p .bytes)) (p .strings + p .«string_size» - 1) ≡ 0
-  pub functionsFit : All (FunctionFits (now (p .bytes))) (take (p .«function_count») (p .functions))
-  pub functionsLettered : All (FunctionLettered (now (p .bytes))) (take (p .«function_count») (p .functions))
-  pub nativesFit : All NativeFits (take (p .«native_count») (p .natives))
-  pub nativesLettered : All (NativeLettered (now (p .bytes))) (take (p .«native_count») (p .natives))
+  pub front : FrontFits (now (p .bytes)) (p .integers) (p .«integer_count») (p .strings) (p .«string_size»)
+  pub functions : FunctionsKnown (now (p .bytes)) (take (p .«function_count») (p .functions))
+  pub natives : NativesKnown (now (p .bytes)) (take (p .«native_count») (p .natives))
   pub codeSum : codeSize (programOf p .functions) ≡ p .«code_size»
-  pub fewCode : p .«code_size» ≤ 4096
-  pub mainTakes : getD (programOf p .functions) 0 noFunction .signature .arguments ≡ []
-  pub mainGives : getD (programOf p .functions) 0 noFunction .signature .result ≡ Word
+  pub functionCount : length (programOf p .functions) ≡ p .«function_count»
+  pub nativeCount : length (programOf p .natives) ≡ p .«native_count»
+  pub integerCount : length (programOf p .integers) ≡ p .«integer_count»
+  pub stringSize : length (programOf p .strings) ≡ p .«string_size»

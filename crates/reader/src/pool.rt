@@ -7,7 +7,7 @@ ghost use Rattle.std.specs.Vec.{made};
 ghost use Rattle.std.specs.shelf.Lists.{All};
 ghost use Rattle.bytecode.specs.Outcome.{told};
 ghost use Rattle.reader.specs.Fields.{byte as byteOf, bytesFrom};
-ghost use Rattle.reader.specs.Layout.{integersAt, stringsAt, functionAt, functionsAt, nativeAt, nativesAt};
+ghost use Rattle.reader.specs.Layout.{integersAt, stringsAt, functionAt, functionsAt, nativeAt, nativesAt, codeBytes};
 ghost use Rattle.reader.specs.View.{integersFrom, functionEntryOf, nativeEntryOf, FunctionFits, FunctionsFit, NativeFits};
 
 use bytecode::refusal::FieldFault;
@@ -36,19 +36,18 @@ pub(crate) fn skip_integers(bytes: &[u8], count: usize, offset: usize) -> Result
     Ok(after)
 }
 
-// The offset after so many string bytes, of which the last is 0.
-pub(crate) fn skip_strings(bytes: &[u8], size: usize, offset: usize) -> Result<usize, Refusal>
+// Whether so many string bytes stand at an offset, the last of them 0.
+pub(crate) fn check_strings(bytes: &[u8], size: usize, offset: usize) -> Result<(), Refusal>
     requires { ⌜ offset ≤ length (now bytes) ⌝ }
-    ensures met { λ r. ⌜ stringsAt (now (bytes .entry)) size offset ≡ told (λ q. record { value = bytesFrom (now (bytes .entry)) offset size; after = q }) r ⌝ }
-    ensures room { λ r. ⌜ made r (λ q. q ≤ length (now (bytes .entry))) ⌝ }
-    ensures inside { λ r. ⌜ made r (λ q. q ≡ offset + size) ⌝ }
-    ensures ended { λ r. ⌜ made r (λ q. (0 < size → byteOf (now (bytes .entry)) (offset + size - 1) ≡ 0)) ⌝ }
+    ensures met { λ r. ⌜ stringsAt (now (bytes .entry)) size offset ≡ told (λ _. record { value = bytesFrom (now (bytes .entry)) offset size; after = offset + size }) r ⌝ }
+    ensures room { λ r. ⌜ made r (λ _. offset + size ≤ length (now (bytes .entry))) ⌝ }
+    ensures ended { λ r. ⌜ made r (λ _. (0 < size → byteOf (now (bytes .entry)) (offset + size - 1) ≡ 0)) ⌝ }
 {
     block(bytes, offset, size)?;
     if size > 0 && bytes[offset + size - 1] != 0 {
         return Err(Refusal::Field { fault: FieldFault::StringEnd, offset });
     }
-    Ok(offset + size)
+    Ok(())
 }
 
 // A function's pool entry, after functions of so many code bytes.
@@ -90,7 +89,8 @@ pub(crate) fn read_functions(bytes: &[u8], count: usize, offset: usize, list: &m
     requires few { ⌜ count ≤ 64 ⌝ }
     ensures met { λ r. ⌜ functionsAt (now (bytes .entry)) count offset ≡ told (λ q. record { value = map (functionEntryOf (now (bytes .entry))) (take count (now (list .exit))); after = q .after }) r ⌝ }
     ensures room { λ r. ⌜ made r (λ q. q .after ≤ length (now (bytes .entry))) ⌝ }
-    ensures fit { λ r. ⌜ made r (λ q. FunctionsFit (now (bytes .entry)) (take count (now (list .exit))) (q .«code_size»)) ⌝ }
+    ensures fit { λ r. ⌜ made r (λ _. FunctionsFit (now (bytes .entry)) (take count (now (list .exit)))) ⌝ }
+    ensures sum { λ r. ⌜ made r (λ q. codeBytes (map (functionEntryOf (now (bytes .entry))) (take count (now (list .exit)))) ≡ q .«code_size») ⌝ }
 {
     let mut after = offset;
     let mut code_size = 0;

@@ -9,8 +9,8 @@ ghost use Rattle.std.specs.shelf.Lists.{All};
 ghost use Rattle.bytecode.specs.Outcome.{told};
 ghost use Rattle.bytecode.specs.declared.kind.Kind.the-variants.{Word};
 ghost use Rattle.reader.specs.Fields.{byte as byteOf};
-ghost use Rattle.reader.specs.Layout.{isLetter, areLetters, kindOf, signatureFrom, recordAt, functionSheetAt, functionArguments, nativeSheetAt, nativeArguments};
-ghost use Rattle.reader.specs.View.{functionEntryOf, functionSignatureOf, nativeEntryOf, nativeSignatureOf, noFunctionRecord, FunctionFits, FunctionLettered, NativeFits, NativeLettered};
+ghost use Rattle.reader.specs.Layout.{isLetter, areLetters, kindOf, signatureFrom, recordAt, functionSheetAt, functionArguments, nativeSheetAt, nativeArguments, sheetAt, codeBytes};
+ghost use Rattle.reader.specs.View.{functionEntryOf, functionSignatureOf, nativeEntryOf, nativeSignatureOf, functionOf, nativeOf, noFunctionRecord, FunctionFits, FunctionsFit, FunctionLettered, FunctionsKnown, NativeFits, NativeLettered, NativesKnown, codeSize};
 
 use bytecode::refusal::FieldFault;
 use bytecode::refusal::Refusal;
@@ -112,4 +112,25 @@ pub(crate) fn read_native_sheet(bytes: &[u8], count: usize, offset: usize, list:
         list[i] = native;
     }
     Ok(after)
+}
+
+// Reads the whole sheet of so many functions and natives, with which the package ends.
+pub(crate) fn read_sheet(bytes: &[u8], offset: usize, function_count: usize, functions: &mut [Function; 64], native_count: usize, natives: &mut [Native; 32]) -> Result<(), Refusal>
+    requires inside { ⌜ offset ≤ length (now bytes) ⌝ }
+    requires some { ⌜ 0 < «function_count» ⌝ }
+    requires fewFunctions { ⌜ «function_count» ≤ 64 ⌝ }
+    requires fewNatives { ⌜ «native_count» ≤ 32 ⌝ }
+    requires functionsFit { ⌜ FunctionsFit (now bytes) (take «function_count» (now functions)) ⌝ }
+    requires nativesFit { ⌜ All NativeFits (take «native_count» (now natives)) ⌝ }
+    ensures met { λ r. ⌜ sheetAt (now (bytes .entry)) «function_count» (map (functionEntryOf (now (bytes .entry))) (take «function_count» (now (functions .entry)))) «native_count» (map nativeEntryOf (take «native_count» (now (natives .entry)))) offset ≡ told (λ _. record { functions = map (functionOf (now (bytes .entry))) (take «function_count» (now (functions .exit))); natives = map (nativeOf (now (bytes .entry))) (take «native_count» (now (natives .exit))) }) r ⌝ }
+    ensures functionsKnown { λ r. ⌜ made r (λ _. FunctionsKnown (now (bytes .entry)) (take «function_count» (now (functions .exit)))) ⌝ }
+    ensures nativesKnown { λ r. ⌜ made r (λ _. NativesKnown (now (bytes .entry)) (take «native_count» (now (natives .exit)))) ⌝ }
+    ensures sum { λ r. ⌜ made r (λ _. codeSize (map (functionOf (now (bytes .entry))) (take «function_count» (now (functions .exit)))) ≡ codeBytes (map (functionEntryOf (now (bytes .entry))) (take «function_count» (now (functions .entry))))) ⌝ }
+{
+    let native_sheet = read_function_sheet(bytes, function_count, offset, functions)?;
+    let end = read_native_sheet(bytes, native_count, native_sheet, natives)?;
+    if end != bytes.len() {
+        return Err(Refusal::Field { fault: FieldFault::Sheet, offset: end });
+    }
+    Ok(())
 }
