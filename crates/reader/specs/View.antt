@@ -48,15 +48,18 @@ programOf p =
       ; functions = map (functionOf (now (p .bytes))) (take (p .«function_count») (p .functions))
       ; natives = map (nativeOf (now (p .bytes))) (take (p .«native_count») (p .natives)) }
 
--- what stands past the end of a list
-abbrev pub noSignature : Signature
-noSignature = record { arguments = []; result = Unknown }
-
+-- function i and native i of a program; past the end of their lists stands one with nothing in it
 abbrev pub noFunction : program.Function
-noFunction = record { signature = noSignature; variables = 0; code = [] }
+noFunction = record { signature = record { arguments = []; result = Word }; variables = 0; code = [] }
+
+abbrev pub functionIn : Program → ℕ → program.Function
+functionIn P i = getD (P .functions) i noFunction
 
 abbrev pub noNative : program.Native
-noNative = record { signature = noSignature; index = 0 }
+noNative = record { signature = record { arguments = []; result = Word }; index = 0 }
+
+abbrev pub nativeIn : Program → ℕ → program.Native
+nativeIn P i = getD (P .natives) i noNative
 
 abbrev pub noFunctionRecord : Function
 noFunctionRecord = record { arguments = 0; variables = 0; code = 0; size = 0; kinds = 0 }
@@ -113,6 +116,26 @@ pub record NativesKnown (bs : List ℕ) (fs : List Native) : Type 0 where
   pub each : All NativeFits fs
   pub lettered : All (NativeLettered bs) fs
 
+-- a kind that a letter can tell
+abbrev pub Told : Kind → Type 0
+Told Unknown = ⊥
+Told Word = Unit {0}
+Told Reference = Unit {0}
+
+-- a function of the program within the limits
+pub record FunctionFormed (g : program.Function) : Type 0 where
+  pub some : 0 < length (g .code)
+  pub few : length (g .code) ≤ 4096
+  pub narrow : g .variables ≤ 32
+  pub ordered : length (g .signature .arguments) ≤ g .variables
+  pub takes : All Told (g .signature .arguments)
+  pub gives : Told (g .signature .result)
+
+pub record NativeFormed (g : program.Native) : Type 0 where
+  pub few : length (g .signature .arguments) ≤ 4
+  pub takes : All Told (g .signature .arguments)
+  pub gives : Told (g .signature .result)
+
 -- what is known of every package that was read
 pub record Fitting (p : Package) : Type 0 where
   pub functionRoom : length (p .functions) ≡ 64
@@ -123,6 +146,8 @@ pub record Fitting (p : Package) : Type 0 where
   pub front : FrontFits (now (p .bytes)) (p .integers) (p .«integer_count») (p .strings) (p .«string_size»)
   pub functions : FunctionsKnown (now (p .bytes)) (take (p .«function_count») (p .functions))
   pub natives : NativesKnown (now (p .bytes)) (take (p .«native_count») (p .natives))
+  pub formed : All FunctionFormed (programOf p .functions)
+  pub nativesFormed : All NativeFormed (programOf p .natives)
   pub codeSum : codeSize (programOf p .functions) ≡ p .«code_size»
   pub functionCount : length (programOf p .functions) ≡ p .«function_count»
   pub nativeCount : length (programOf p .natives) ≡ p .«native_count»
