@@ -4,7 +4,7 @@ use mathlib.Core.Path.{_≡_, _∙_, ap, refl}
 use mathlib.Core.List.{List, map}
 use native.Mathlib.Omega.{arith}
 use lib.ListN.{length, getD, take, drop}
-use Rattle.std.proofs.shelf.Lists.{length-take-le, length-drop, getD-map, getD-take, getD-drop}
+use Rattle.std.proofs.shelf.Lists.{length-take-le, length-drop, length-map, getD-map, getD-take, getD-drop}
 use Rattle.std.proofs.shelf.Counted.{getD-map-counting}
 use Rattle.bytecode.specs.declared.kind.Kind.{Kind}
 use Rattle.bytecode.specs.declared.kind.Kind.the-variants.{Unknown}
@@ -26,3 +26,7 @@ pub kind-at : (bs : List ℕ) (p n i : ℕ) → p + n ≤ length bs → i < n �
 kind-at bs p n i k l =
     let m : length (bytesFrom bs p n) ≡ n = bytes-length bs p n k in
     getD-map kindOf (bytesFrom bs p n) i 0 Unknown (omega arith) ∙ ap kindOf (getD-take n (drop p bs) i 0 l ∙ getD-drop p bs i 0)
+
+-- as many kinds as letters
+pub kinds-length : (bs : List ℕ) (p n : ℕ) → p + n ≤ length bs → length (map kindOf (bytesFrom bs p n)) ≡ n
+kinds-length bs p n l = length-map (bytesFrom bs p n) kindOf ∙ bytes-length bs p n l

@@ -75,6 +75,7 @@ impl<'a> Package<'a> {
         ensures met { λ r. ⌜ functionIn (programOf (now (self .entry))) function ≡ functionOf (now (now (self .entry) .bytes)) r ⌝ }
         ensures fits { λ r. ⌜ FunctionFits (now (now (self .entry) .bytes)) r ⌝ }
         ensures lettered { λ r. ⌜ FunctionLettered (now (now (self .entry) .bytes)) r ⌝ }
+        ensures takes { λ r. ⌜ length (functionIn (programOf (now (self .entry))) function .signature .arguments) ≡ r .arguments ⌝ }
     {
         self.functions[function]
     }
@@ -85,6 +86,7 @@ impl<'a> Package<'a> {
         ensures met { λ r. ⌜ nativeIn (programOf (now (self .entry))) native ≡ nativeOf (now (now (self .entry) .bytes)) r ⌝ }
         ensures fits { λ r. ⌜ NativeFits r ⌝ }
         ensures lettered { λ r. ⌜ NativeLettered (now (now (self .entry) .bytes)) r ⌝ }
+        ensures takes { λ r. ⌜ length (nativeIn (programOf (now (self .entry))) native .signature .arguments) ≡ r .arguments ⌝ }
     {
         self.natives[native]
     }
