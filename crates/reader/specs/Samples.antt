@@ -16,14 +16,16 @@ product =
 
 abbrev pub productProgram : Program
 productProgram =
-    record
-      { integers = []
-      ; strings = []
-      ; functions = record
-          { signature = record { arguments = []; result = Word }
-          ; variables = 0
-          ; code = 0x10 ∷ 0x06 ∷ 0x10 ∷ 0x07 ∷ 0x68 ∷ 0xB0 ∷ [] } ∷ []
-      ; natives = [] }
+    record {
+      integers = [];
+      strings = [];
+      functions = record {
+        signature = record { arguments = []; result = Word };
+        variables = 0;
+        code = 0x10 ∷ 0x06 ∷ 0x10 ∷ 0x07 ∷ 0x68 ∷ 0xB0 ∷ [];
+      } ∷ [];
+      natives = [];
+    }
 
 pub record Samples : Type 0 where
   pub accepted : packageAt product ≡ good productProgram

@@ -5,7 +5,6 @@ ghost use lib.ListN.{length};
 ghost use Rattle.std.specs.Vec.{made};
 ghost use Rattle.bytecode.specs.Outcome.{told, same};
 ghost use Rattle.reader.specs.Fields.{twoLow, bytesFrom, byteAt, twoAt, bytesAt};
-
 use bytecode::refusal::FieldFault;
 use bytecode::refusal::Refusal;
 
@@ -16,7 +15,10 @@ pub(crate) fn block(bytes: &[u8], offset: usize, size: usize) -> Result<(), Refu
     ensures room { λ r. ⌜ made r (λ _. offset + size ≤ length (now (bytes .entry))) ⌝ }
 {
     if size > bytes.len() - offset {
-        return Err(Refusal::Field { fault: FieldFault::Cut, offset });
+        return Err(Refusal::Field {
+            fault: FieldFault::Cut,
+            offset,
+        });
     }
     Ok(())
 }
@@ -27,7 +29,10 @@ pub(crate) fn byte(bytes: &[u8], offset: usize) -> Result<u8, Refusal>
     ensures room { λ r. ⌜ made r (λ _. offset + 1 ≤ length (now (bytes .entry))) ⌝ }
 {
     if bytes.len() - offset < 1 {
-        return Err(Refusal::Field { fault: FieldFault::Cut, offset });
+        return Err(Refusal::Field {
+            fault: FieldFault::Cut,
+            offset,
+        });
     }
     Ok(bytes[offset])
 }
@@ -39,7 +44,10 @@ pub(crate) fn pair(bytes: &[u8], offset: usize) -> Result<u16, Refusal>
     ensures room { λ r. ⌜ made r (λ _. offset + 2 ≤ length (now (bytes .entry))) ⌝ }
 {
     if bytes.len() - offset < 2 {
-        return Err(Refusal::Field { fault: FieldFault::Cut, offset });
+        return Err(Refusal::Field {
+            fault: FieldFault::Cut,
+            offset,
+        });
     }
     Ok(bytes[offset] as u16 * 256 + bytes[offset + 1] as u16)
 }

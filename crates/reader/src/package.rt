@@ -6,7 +6,6 @@ ghost use Rattle.bytecode.specs.declared.kind.Kind.the-variants.{Unknown};
 ghost use Rattle.reader.specs.Fields.{byte as byteOf, four, bytesFrom};
 ghost use Rattle.reader.specs.Layout.{kindOf};
 ghost use Rattle.reader.specs.View.{functionOf, nativeOf, programOf, functionIn, nativeIn, FunctionFits, FunctionLettered, NativeFits, NativeLettered, Fitting};
-
 use bytecode::kind::Kind;
 
 /// A function's pool entry, the offset of its code, and where its sheet record has the letter of its result (those of the arguments follow).
@@ -47,7 +46,11 @@ fn kind_at(bytes: &[u8], offset: usize) -> Kind
     requires { ⌜ offset < length (now bytes) ⌝ }
     ensures { λ r. ⌜ r ≡ kindOf (byteOf (now (bytes .entry)) offset) ⌝ }
 {
-    if bytes[offset] == 0x77 { Kind::Word } else { Kind::Reference }
+    if bytes[offset] == 0x77 {
+        Kind::Word
+    } else {
+        Kind::Reference
+    }
 }
 
 fn word_at(bytes: &[u8], offset: usize) -> u32

@@ -12,4 +12,4 @@ returns c =
     let l : c .args .argument < found .arguments = omega (arith, c .function-at-found .ensures .takes, c .pre .taken) in
     c .kind-at .ensures ∙
     sym (ap (λ f. getD (f .signature .arguments) (c .args .argument) Unknown) (c .function-at-found .ensures .met) ∙
-         kind-at (c .args .self .now .bytes .now) (found .kinds + 1) (found .arguments) (c .args .argument) (c .function-at-found .ensures .lettered) l)
+    kind-at (c .args .self .now .bytes .now) (found .kinds + 1) (found .arguments) (c .args .argument) (c .function-at-found .ensures .lettered) l)
