@@ -9,11 +9,6 @@ use Rattle.bytecode.specs.Program.{Program}
 use Rattle.reader.specs.Layout.{packageAt}
 
 -- six times seven, by one function
-abbrev pub product : List ℕ
-product =
-    0xC0 ∷ 0xC0 ∷ 0xFF ∷ 0xEE ∷ 0x00 ∷ 0x17 ∷ 0x00 ∷ 0x00 ∷ 0x00 ∷ 0x00 ∷ 0x00 ∷ 0x01 ∷ 0x00 ∷ 0x00 ∷ 0x00 ∷ 0x06 ∷
-    0x10 ∷ 0x06 ∷ 0x10 ∷ 0x07 ∷ 0x68 ∷ 0xB0 ∷ 0x00 ∷ 0x00 ∷ 0x03 ∷ 0x00 ∷ 0x01 ∷ 0x00 ∷ 0x77 ∷ []
-
 abbrev pub productProgram : Program
 productProgram =
     record {
@@ -27,7 +22,8 @@ productProgram =
       natives = [];
     }
 
-pub record Samples : Type 0 where
+-- a package that holds it, cut and changed: what each reads to
+pub record Samples (product : List ℕ) : Type 0 where
   pub accepted : packageAt product ≡ good productProgram
   pub magicCut : packageAt (take 3 product) ≡ bad (10, 0, 0)
   pub magicWrong : packageAt (set product 3 0xEF) ≡ bad (11, 0, 0)

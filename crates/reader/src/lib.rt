@@ -1,16 +1,17 @@
 // Reads a package and its sheet, field by field.
 ghost use mathlib.Core.Path.{_≡_};
-ghost use Prim.Native.Nat.{ℕ, _+_, _*_, _-_, _<_, _≤_};
+ghost use Prim.Native.Nat.{ℕ, _+_, _≤_};
 ghost use lib.ListN.{length};
 ghost use Rattle.std.specs.Vec.{made};
 ghost use Rattle.bytecode.specs.Outcome.{told, same};
-ghost use Rattle.reader.specs.Fields.{byte as byteOf, bytesFrom};
+ghost use Rattle.reader.specs.Fields.{bytesFrom};
 ghost use Rattle.reader.specs.Layout.{magicAt, frontAt, packageAt};
 ghost use Rattle.reader.specs.View.{integersFrom, programOf, FrontFits, Fitting};
 ghost use Rattle.reader.specs.Samples.{Samples};
 use bytecode::refusal::FieldFault;
 use bytecode::refusal::Refusal;
 use field::pair;
+use field::refused;
 use package::Function;
 use package::Native;
 use package::Package;
@@ -35,14 +36,8 @@ fn read_magic(bytes: &[u8]) -> Result<usize, Refusal>
 {
     match bytes {
         [0xC0, 0xC0, 0xFF, 0xEE, rest @ ..] => Ok(bytes.len() - rest.len()),
-        [_, _, _, _, ..] => Err(Refusal::Field {
-            fault: FieldFault::Magic,
-            offset: 0,
-        }),
-        _ => Err(Refusal::Field {
-            fault: FieldFault::Cut,
-            offset: 0,
-        }),
+        [_, _, _, _, ..] => Err(refused(FieldFault::Magic, 0)),
+        _ => Err(refused(FieldFault::Cut, 0)),
     }
 }
 
@@ -61,18 +56,12 @@ fn read_front(bytes: &[u8]) -> Result<Front, Refusal>
     ensures fits { λ r. ⌜ made r (λ f. FrontFits (now (bytes .entry)) (f .integers) (f .«integer_count») (f .strings) (f .«string_size»)) ⌝ }
 {
     if bytes.len() > LENGTH_LIMIT {
-        return Err(Refusal::Field {
-            fault: FieldFault::Limit,
-            offset: 0,
-        });
+        return Err(refused(FieldFault::Limit, 0));
     }
     let version_offset = read_magic(bytes)?;
     let version = pair(bytes, version_offset)?;
     if version != VERSION {
-        return Err(Refusal::Field {
-            fault: FieldFault::Version,
-            offset: version_offset,
-        });
+        return Err(refused(FieldFault::Version, version_offset));
     }
     let integer_count = pair(bytes, version_offset + 2)? as usize;
     let integers = version_offset + 4;
@@ -116,19 +105,13 @@ pub fn read_package<'a>(bytes: &'a [u8]) -> Result<Package<'a>, Refusal>
     let functions_offset = front.strings + front.string_size;
     let function_count = pair(bytes, functions_offset)? as usize;
     if function_count == 0 || function_count > FUNCTION_LIMIT {
-        return Err(Refusal::Field {
-            fault: FieldFault::Limit,
-            offset: functions_offset,
-        });
+        return Err(refused(FieldFault::Limit, functions_offset));
     }
     let mut functions = no_functions();
     let pool = pool::read_functions(bytes, function_count, functions_offset + 2, &mut functions)?;
     let native_count = pair(bytes, pool.after)? as usize;
     if native_count > NATIVE_LIMIT {
-        return Err(Refusal::Field {
-            fault: FieldFault::Limit,
-            offset: pool.after,
-        });
+        return Err(refused(FieldFault::Limit, pool.after));
     }
     let mut natives = no_natives();
     let sheet = pool::read_natives(bytes, native_count, pool.after + 2, &mut natives)?;
@@ -154,9 +137,39 @@ pub fn read_package<'a>(bytes: &'a [u8]) -> Result<Package<'a>, Refusal>
     })
 }
 
-/// Sample packages read as they should; the contract is the claim.
-pub fn samples_stand() -> u8
-    ensures { λ _. ⌜ Samples ⌝ }
+/// The package of a program that answers six times seven. The contract says what it and changes of it read to.
+pub fn sample_package() -> [u8; 29]
+    ensures { λ r. ⌜ Samples r ⌝ }
 {
-    0
+    [
+        0xC0,
+        0xC0,
+        0xFF,
+        0xEE,
+        0x00,
+        0x17,
+        0x00,
+        0x00,
+        0x00,
+        0x00,
+        0x00,
+        0x01,
+        0x00,
+        0x00,
+        0x00,
+        0x06,
+        0x10,
+        0x06,
+        0x10,
+        0x07,
+        0x68,
+        0xB0,
+        0x00,
+        0x00,
+        0x03,
+        0x00,
+        0x01,
+        0x00,
+        0x77,
+    ]
 }

@@ -12,6 +12,7 @@ ghost use Rattle.reader.specs.View.{integersFrom, functionEntryOf, nativeEntry
 use crate::field::block;
 use crate::field::byte;
 use crate::field::pair;
+use crate::field::refused;
 use crate::package::Function;
 use crate::package::Native;
 use bytecode::refusal::FieldFault;
@@ -44,10 +45,7 @@ pub(crate) fn check_strings(bytes: &[u8], size: usize, offset: usize) -> Result<
 {
     block(bytes, offset, size)?;
     if size > 0 && bytes[offset + size - 1] != 0 {
-        return Err(Refusal::Field {
-            fault: FieldFault::StringEnd,
-            offset,
-        });
+        return Err(refused(FieldFault::StringEnd, offset));
     }
     Ok(())
 }
@@ -68,24 +66,15 @@ fn read_function(
 {
     let arguments = byte(bytes, offset)?;
     if index == 0 && arguments != 0 {
-        return Err(Refusal::Field {
-            fault: FieldFault::Limit,
-            offset,
-        });
+        return Err(refused(FieldFault::Limit, offset));
     }
     let variables = byte(bytes, offset + 1)?;
     if variables > 32 || variables < arguments {
-        return Err(Refusal::Field {
-            fault: FieldFault::Limit,
-            offset: offset + 1,
-        });
+        return Err(refused(FieldFault::Limit, offset + 1));
     }
     let size = pair(bytes, offset + 2)?;
     if size == 0 || size as usize > CODE_LIMIT - before {
-        return Err(Refusal::Field {
-            fault: FieldFault::Limit,
-            offset: offset + 2,
-        });
+        return Err(refused(FieldFault::Limit, offset + 2));
     }
     let code = offset + 4;
     block(bytes, code, size as usize)?;
@@ -138,10 +127,7 @@ fn read_native(bytes: &[u8], offset: usize) -> Result<Native, Refusal>
 {
     let arguments = pair(bytes, offset)?;
     if arguments > 4 {
-        return Err(Refusal::Field {
-            fault: FieldFault::Limit,
-            offset,
-        });
+        return Err(refused(FieldFault::Limit, offset));
     }
     let index = pair(bytes, offset + 2)?;
     Ok(Native {

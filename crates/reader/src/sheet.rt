@@ -12,6 +12,7 @@ ghost use Rattle.reader.specs.Fields.{byte as byteOf};
 ghost use Rattle.reader.specs.Layout.{isLetter, areLetters, kindOf, signatureFrom, recordAt, functionSheetAt, functionArguments, nativeSheetAt, nativeArguments, sheetAt, codeBytes};
 ghost use Rattle.reader.specs.View.{functionEntryOf, functionSignatureOf, nativeEntryOf, nativeSignatureOf, functionOf, nativeOf, noFunctionRecord, FunctionFits, FunctionsFit, FunctionLettered, FunctionsKnown, NativeFits, NativeLettered, NativesKnown, codeSize};
 use crate::field::pair_low;
+use crate::field::refused;
 use crate::package::Function;
 use crate::package::Native;
 use bytecode::refusal::FieldFault;
@@ -61,29 +62,17 @@ fn read_record(
     ensures gives { λ r. ⌜ made r (λ q. (main ≡ true → kindOf (byteOf (now (bytes .entry)) q) ≡ Word)) ⌝ }
 {
     if bytes.len() - offset < 5 + arguments {
-        return Err(Refusal::Field {
-            fault: FieldFault::Sheet,
-            offset,
-        });
+        return Err(refused(FieldFault::Sheet, offset));
     }
     if pair_low(bytes, offset) != 3 + arguments || pair_low(bytes, offset + 2) != sort {
-        return Err(Refusal::Field {
-            fault: FieldFault::Sheet,
-            offset,
-        });
+        return Err(refused(FieldFault::Sheet, offset));
     }
     let kinds = offset + 4;
     if !letters(bytes, kinds, 1 + arguments) {
-        return Err(Refusal::Field {
-            fault: FieldFault::Sheet,
-            offset,
-        });
+        return Err(refused(FieldFault::Sheet, offset));
     }
     if main && bytes[kinds] != WORD {
-        return Err(Refusal::Field {
-            fault: FieldFault::Sheet,
-            offset,
-        });
+        return Err(refused(FieldFault::Sheet, offset));
     }
     Ok(kinds)
 }
@@ -166,10 +155,7 @@ pub(crate) fn read_sheet(
     let native_sheet = read_function_sheet(bytes, function_count, offset, functions)?;
     let end = read_native_sheet(bytes, native_count, native_sheet, natives)?;
     if end != bytes.len() {
-        return Err(Refusal::Field {
-            fault: FieldFault::Sheet,
-            offset: end,
-        });
+        return Err(refused(FieldFault::Sheet, end));
     }
     Ok(())
 }

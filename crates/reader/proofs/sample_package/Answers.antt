@@ -1,6 +1,6 @@
 use mathlib.Core.Path.{refl}
 use Rattle.bytecode.specs.Outcome.{repeat}
-use Rattle.reader.proofs.samples_stand.Needs as need
+use Rattle.reader.proofs.sample_package.Needs as need
 
 pub returns : need.returns
 unfolding repeat
