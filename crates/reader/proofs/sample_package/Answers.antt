@@ -21,4 +21,12 @@ returns c =
       sheetMissing = refl;
       sheetCut = refl;
       mainGivesReference = refl;
+      leftOver = refl;
+      mixedAccepted = refl;
+      integerCut = refl;
+      fewVariables = refl;
+      nativeTakesFive = refl;
+      recordLong = refl;
+      recordSort = refl;
+      letterUnknown = refl;
     }
