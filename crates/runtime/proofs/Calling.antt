@@ -100,8 +100,6 @@ module _ (P : Program) (sizes : Sizes) {S : Type 0} (host : Host S) (f p q : ℕ
             ; reserves = let z = r .reserves in omega arith
             ; slot-count = r .slot-count
             ; frame-count = length-set (l .frames) (l .callers) caller ∙ r .frame-count
-            ; cell-count = r .cell-count
-            ; record-count = r .record-count
             ; roomy = omega arith
             ; free = free
             ; heap = r .heap
@@ -150,8 +148,6 @@ module _ (P : Program) (sizes : Sizes) {S : Type 0} (f p : ℕ) (vs : List (Opti
             ; reserves = omega arith
             ; slot-count = length-set (l .slots) (length below) (slot l (l .top - 1)) ∙ r .slot-count
             ; frame-count = r .frame-count
-            ; cell-count = r .cell-count
-            ; record-count = r .record-count
             ; roomy = let z = r .roomy in omega arith
             ; free = let z = r .free in omega arith
             ; heap = r .heap

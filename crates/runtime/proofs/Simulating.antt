@@ -92,7 +92,7 @@ module _ (P : Program) (sizes : Sizes) {S : Type 0} (f p : ℕ) (vs : List (Opti
   -- the same frame goes on: other variables, stack, slots, heap and storage
   pub renew : (st : List Value) → Rep st → (q : ℕ) (us : List (Option Value)) (t : List Value) (k : Heap) (mem : List ℕ) (top : ℕ) (m : Storage)
     → top ≡ length (flat (frame f q us t ∷ rest)) → Lays (m .count) (flat (frame f q us t ∷ rest)) mem → length mem ≡ length (l .slots)
-    → Match k m → Kept (l .storage) m
+    → Match (sizes .cells) (sizes .records) k m → Kept (l .storage) m
     → Represents P sizes f q us t rest k (record { function = l .function; place = q; base = l .base; slots = mem; top = top; frames = l .frames; callers = l .callers; reserved = l .reserved; storage = m })
   renew st r q us t k mem top m a b c d e =
       record
@@ -106,15 +106,13 @@ module _ (P : Program) (sizes : Sizes) {S : Type 0} (f p : ℕ) (vs : List (Opti
         ; reserves = r .reserves
         ; slot-count = c ∙ r .slot-count
         ; frame-count = r .frame-count
-        ; cell-count = e .cells ∙ r .cell-count
-        ; record-count = e .records ∙ r .record-count
         ; roomy = r .roomy
         ; free = r .free
         ; heap = d
         ; sized = e .sized }
 
   pub as-it-was : (st : List Value) → Rep st → Kept (l .storage) (l .storage)
-  as-it-was st r = record { sized = r .sized; more = omega arith; cells = refl; records = refl }
+  as-it-was st r = record { sized = r .sized; more = omega arith }
 
   -- ## Taking values off
 
@@ -154,7 +152,7 @@ module _ (P : Program) (sizes : Sizes) {S : Type 0} (f p : ℕ) (vs : List (Opti
   module _ (room : (t : List Value) → length t < 32 → high t < length (l .slots)) where
     -- with a value right above t, perhaps with another heap
     pub put : (st : List Value) → Rep st → (t : List Value) (q i n : ℕ) (v : Value) (k : Heap) (m : Storage)
-      → Lays (l .storage .count) (flat (frame f p vs t ∷ rest)) (l .slots) → i ≡ high t → length t < 32 → Match k m → Kept (l .storage) m → Stands (m .count) v n
+      → Lays (l .storage .count) (flat (frame f p vs t ∷ rest)) (l .slots) → i ≡ high t → length t < 32 → Match (sizes .cells) (sizes .records) k m → Kept (l .storage) m → Stands (m .count) v n
       → R (conf (frame f q vs (v ∷ t)) rest k) (pushed (with-storage l m) q i n)
     put st r t q i n v k m lays e lt match kept sv =
         subst (λ j. R (conf (frame f q vs (v ∷ t)) rest k) (pushed (with-storage l m) q j n)) (sym e)
@@ -170,7 +168,7 @@ module _ (P : Program) (sizes : Sizes) {S : Type 0} (f p : ℕ) (vs : List (Opti
     push st r t q i n v lays e lt sv = put st r t q i n v h (l .storage) lays e lt (r .heap) (as-it-was st r) sv
 
     pub cut : (st : List Value) → Rep st → (t : List Value) (q i : ℕ) (k : Heap) (m : Storage)
-      → Lays (l .storage .count) (flat (frame f p vs t ∷ rest)) (l .slots) → i ≡ high t → Match k m → Kept (l .storage) m
+      → Lays (l .storage .count) (flat (frame f p vs t ∷ rest)) (l .slots) → i ≡ high t → Match (sizes .cells) (sizes .records) k m → Kept (l .storage) m
       → R (conf (frame f q vs t) rest k) (moved (with-storage l m) q i)
     cut st r t q i k m lays e match kept =
         renew st r q vs t k (l .slots) i m e (lays-later (l .storage .count) (m .count) (kept .more) (flat (frame f p vs t ∷ rest)) (l .slots) lays) refl match kept
@@ -350,14 +348,14 @@ module _ (P : Program) (sizes : Sizes) {S : Type 0} (f p : ℕ) (vs : List (Opti
         pick (gives n) names = g n names
         pick (stops z) names = stop
 
-    pub stored-same : {x : Attempt Heap} {y : Attempt Storage} → HeapSame Match x y → KeptIf (l .storage) y → (k : Heap → Next Conf S) (j : Storage → Came)
-      → ((a : Heap) (b : Storage) → Match a b → Kept (l .storage) b → Same R (k a) (lifted s (j b))) → Same R (attempt x s k) (lifted s (tried y j))
+    pub stored-same : {x : Attempt Heap} {y : Attempt Storage} → HeapSame (Match (sizes .cells) (sizes .records)) x y → KeptIf (l .storage) y → (k : Heap → Next Conf S) (j : Storage → Came)
+      → ((a : Heap) (b : Storage) → Match (sizes .cells) (sizes .records) a b → Kept (l .storage) b → Same R (k a) (lifted s (j b))) → Same R (attempt x s k) (lifted s (tried y j))
     stored-same (give {a} {b} m) kept k j g = g a b m kept
     stored-same halt kept k j g = stop
 
-    pub placed-same : {x : Attempt Rattle.heap.specs.Checked.Allocation} {y : Attempt Placement} → HeapSame Allocated x y → KeptPlacement (l .storage) y
+    pub placed-same : {x : Attempt Rattle.heap.specs.Checked.Allocation} {y : Attempt Placement} → HeapSame (Allocated (sizes .cells) (sizes .records)) x y → KeptPlacement (l .storage) y
       → (k : Rattle.heap.specs.Checked.Allocation → Next Conf S) (j : Placement → Came)
-      → ((a : Rattle.heap.specs.Checked.Allocation) (b : Placement) → Allocated a b → Kept (l .storage) (b .storage) → Same R (k a) (lifted s (j b))) → Same R (attempt x s k) (lifted s (tried y j))
+      → ((a : Rattle.heap.specs.Checked.Allocation) (b : Placement) → Allocated (sizes .cells) (sizes .records) a b → Kept (l .storage) (b .storage) → Same R (k a) (lifted s (j b))) → Same R (attempt x s k) (lifted s (tried y j))
     placed-same (give {a} {b} m) kept k j g = g a b m kept
     placed-same halt kept k j g = stop
 
@@ -414,7 +412,7 @@ module _ (P : Program) (sizes : Sizes) {S : Type 0} (f p : ℕ) (vs : List (Opti
 
     -- a word stored at a reference
     pub store-word-same : {st : List Value} {ks : List Kind} → Kinded st (Word ∷ Ref ∷ ks) → Rep st → (q : ℕ) (write : Reference → ℕ → Attempt Heap) (store : ℕ → ℕ → Attempt Storage)
-      → ((n w : ℕ) → Known (l .storage .count) n → HeapSame Match (write (referenceOf n) w) (store n w) × KeptIf (l .storage) (store n w))
+      → ((n w : ℕ) → Known (l .storage .count) n → HeapSame (Match (sizes .cells) (sizes .records)) (write (referenceOf n) w) (store n w) × KeptIf (l .storage) (store n w))
       → Same R (popWord st s (λ n u. popReference u s (λ a t. attempt (write a n) s (λ k. resume f q vs t rest k s))))
         (lifted s (tried (store (slot l (l .top - 2)) (wordIn l (l .top - 1))) (λ m. went (moved (with-storage l m) q (l .top - 2)))))
     store-word-same d r q write store same =
@@ -432,7 +430,7 @@ module _ (P : Program) (sizes : Sizes) {S : Type 0} (f p : ℕ) (vs : List (Opti
     two-references Q (refs {r = b} (refs {r = a} {st = t} k)) g = g b a t k
 
     pub store-reference-same : {st : List Value} {ks : List Kind} → Kinded st (Ref ∷ Ref ∷ ks) → Rep st → (q : ℕ) (write : Reference → Reference → Attempt Heap) (store : ℕ → ℕ → Attempt Storage)
-      → ((n v : ℕ) → Known (l .storage .count) n → Known (l .storage .count) v → HeapSame Match (write (referenceOf n) (referenceOf v)) (store n v) × KeptIf (l .storage) (store n v))
+      → ((n v : ℕ) → Known (l .storage .count) n → Known (l .storage .count) v → HeapSame (Match (sizes .cells) (sizes .records)) (write (referenceOf n) (referenceOf v)) (store n v) × KeptIf (l .storage) (store n v))
       → Same R (popReference st s (λ b u. popReference u s (λ a t. attempt (write a b) s (λ k. resume f q vs t rest k s))))
         (lifted s (tried (store (slot l (l .top - 2)) (slot l (l .top - 1))) (λ m. went (moved (with-storage l m) q (l .top - 2)))))
     store-reference-same d r q write store same =

@@ -19,7 +19,6 @@ use Rattle.heap.specs.declared.Cell.{Cell}
 use Rattle.heap.specs.declared.BlockRecord.{BlockRecord}
 use Rattle.heap.specs.Checked.{Layout, single, array, room, zeros, header, wordAt, putWord}
 use Rattle.heap.specs.Storage.{Storage, Sound, Known, blockOf, offsetOf, noCell, noRecord, cellIn, recordIn, recordOf, unmarked, holding, fromBytes, toBytes, withCell, clear, laid, placed, hasRoom, Placement, place, newSingle, newArray, bySort, arrayAt, arrayLength, locateIn, locate, wordIn, byteIn, numberIn, wordInto, byteInto, numberInto, storedIn, loadWord, loadByte, storeWord, storeByte, storeReference}
-use Rattle.heap.proofs.Clearing.{length-laid}
 use Rattle.word.specs.Words.{compute, wrap, undivided}
 use Rattle.runtime.specs.Relation.{Sized}
 
@@ -132,12 +131,10 @@ cells-laid mem i (array n s) h le =
 
 -- ## Storage
 
--- storage after an instruction: sized, with no fewer blocks, over as many cells and records
+-- storage after an instruction: sized, with no fewer blocks
 pub record Kept (l m : Storage) : Type 0 where
   pub sized : Sized m
   pub more : l .count ≤ m .count
-  pub cells : length (m .cells) ≡ length (l .cells)
-  pub records : length (m .records) ≡ length (l .records)
 
 abbrev pub KeptIf : Storage → Attempt Storage → Type 0
 KeptIf l (gives m) = Kept l m
@@ -207,9 +204,7 @@ module _ (l : Storage) (sound : Sound l) (n : ℕ) (known : Known (l .count) n) 
     sized-cell j c b =
         record
           { sized = record { bytes = cells-set (l .cells) (l .used) j c (sized .bytes) b; counts = sized .counts }
-          ; more = omega arith
-          ; cells = length-set (l .cells) j c
-          ; records = refl }
+          ; more = omega arith }
 
     into : (j : ℕ) (b : Bool) (c : Cell) → Bytes (c .bytes) → KeptIf l (storedIn l j (cond b (stops Mark) (gives c)))
     into j true c h = tt
@@ -281,9 +276,7 @@ sized-place l sized how c = go (leb (l .used + room how) (length (l .cells))) re
     go true p true q =
         record
           { sized = sized-placed l sized how c (leb-true (l .used + room how) (length (l .cells)) p) (ltb-true (l .count) (length (l .records)) q)
-          ; more = omega arith
-          ; cells = length-laid (l .cells) (l .used) how
-          ; records = length-set (l .records) (l .count) (recordOf (l .used) how) }
+          ; more = omega arith }
 
 pub kept-new : (l : Storage) → Sized l → (s : ℕ) → KeptPlacement l (newSingle l s)
 kept-new l sized s = sized-place l sized (single s) tt

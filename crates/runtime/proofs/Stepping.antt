@@ -190,11 +190,10 @@ module _ (P : Program) (plans : Plans) (ok : Accepted P plans) (small : Small P)
         pick st (words {n} {st = t} kt) r low =
             let o = one P sizes f p vs rest h l s (word n) t r in
             let en = word-in n (slot l (l .top - 1)) (o .stood .0) (o .stood .1) in
-            subst₂ (λ c k. Same R (attempt (newarray c k h b n) s (λ a. resume f (p + 2) vs (reference (a .reference) ∷ t) rest (a .heap) s)) (lifted s (running.exec P (Newarray b) (p + 2) l))) (r .cell-count) (r .record-count)
-              (subst (λ m. Same R (attempt (newarray (length (l .storage .cells)) (length (l .storage .records)) h b n) s (λ a. resume f (p + 2) vs (reference (a .reference) ∷ t) rest (a .heap) s))
+            subst (λ m. Same R (attempt (newarray (sizes .cells) (sizes .records) h b n) s (λ a. resume f (p + 2) vs (reference (a .reference) ∷ t) rest (a .heap) s))
                   (lifted s (running.tried (newArray (l .storage) b m) (λ a. went (running.pushed (running.with-storage l (a .storage)) (p + 2) (l .top - 1) (a .number)))))) (sym en)
-                (placed-same P sizes f p vs rest h l s room (stands .allocates h (l .storage) (r .heap) .newarrays b n) (kept-newarray (l .storage) (r .sized) b n) _ _
-                  (λ a m al kept. go (put P sizes f p vs rest h l s room (word n ∷ t) r t (p + 2) (l .top - 1) (m .number) (reference (a .reference)) (a .heap) (m .storage) (o .lays) (o .above) (omega arith) (al .match) kept (al .same, al .known)))))
+                (placed-same P sizes f p vs rest h l s room (stands .allocates (sizes .cells) (sizes .records) h (l .storage) (r .heap) .newarrays b n) (kept-newarray (l .storage) (r .sized) b n) _ _
+                  (λ a m al kept. go (put P sizes f p vs rest h l s room (word n ∷ t) r t (p + 2) (l .top - 1) (m .number) (reference (a .reference)) (a .heap) (m .storage) (o .lays) (o .above) (omega arith) (al .match) kept (al .same, al .known))))
 
     act-same : (i : Instruction) (x : Shape) → effect P f p i (d .shape) ≡ good x → Lands x (plans f) (successors p i)
       → Same R (exec P host sizes i f p (p + sizeOf i) vs st rest h s) (act P host i (p + sizeOf i) l s)
@@ -263,49 +262,48 @@ module _ (P : Program) (plans : Plans) (ok : Accepted P plans) (small : Small P)
     act-same (New b) x e w =
         let y = replaced f p (variablesAt P f) [] (Ref ∷ []) (d .shape) x e in
         let lt = spare-one Ref x y in
-        subst₂ (λ c k. Same R (roomFor st s (attempt (new c k h b) s (λ a. resume f (p + 2) vs (reference (a .reference) ∷ st) rest (a .heap) s))) (lifted s (running.exec P (New b) (p + 2) l))) (r .cell-count) (r .record-count)
-          (room-same P sizes f p vs rest h l s room st lt _ _
-            (placed-same P sizes f p vs rest h l s room (stands .allocates h (l .storage) (r .heap) .news b) (kept-new (l .storage) (r .sized) b) _ _
-              (λ a m al kept. go (put P sizes f p vs rest h l s room st r st (p + 2) (l .top) (m .number) (reference (a .reference)) (a .heap) (m .storage) (r .lays) (r .top) lt (al .match) kept (al .same, al .known)))))
+        room-same P sizes f p vs rest h l s room st lt _ _
+          (placed-same P sizes f p vs rest h l s room (stands .allocates (sizes .cells) (sizes .records) h (l .storage) (r .heap) .news b) (kept-new (l .storage) (r .sized) b) _ _
+              (λ a m al kept. go (put P sizes f p vs rest h l s room st r st (p + 2) (l .top) (m .number) (reference (a .reference)) (a .heap) (m .storage) (r .lays) (r .top) lt (al .match) kept (al .same, al .known))))
     act-same (Newarray b) x e w =
         let y = replaced f p (variablesAt P f) (Word ∷ []) (Ref ∷ []) (d .shape) x e in
         newarray-same b (before (Word ∷ y .rest) (y .before))
     act-same Arraylength x e w =
         let y = replaced f p (variablesAt P f) (Ref ∷ []) (Word ∷ []) (d .shape) x e in
         word-at-same P sizes f p vs rest h l s room (before (Ref ∷ y .rest) (y .before)) r low (p + 1) (arraylength h) (arrayLength (l .storage))
-          (λ n k. (stands .answers h (l .storage) (r .heap) n k .arraylengths, length-word (l .storage) (r .heap .sound) n k (r .sized)))
+          (λ n k. (stands .answers (sizes .cells) (sizes .records) h (l .storage) (r .heap) n k .arraylengths, length-word (l .storage) (r .heap .sound) n k (r .sized)))
     act-same (Aaddf b) x e w =
         let y = replaced f p (variablesAt P f) (Ref ∷ []) (Ref ∷ []) (d .shape) x e in
         reference-at-same P sizes f p vs rest h l s room (before (Ref ∷ y .rest) (y .before)) r low (p + 2) (λ a. aaddf h a b) (λ n. addField (l .storage) n b)
-          (λ n k. stands .answers h (l .storage) (r .heap) n k .aaddfs b)
+          (λ n k. stands .answers (sizes .cells) (sizes .records) h (l .storage) (r .heap) n k .aaddfs b)
     act-same Aadds x e w =
         let y = replaced f p (variablesAt P f) (Word ∷ Ref ∷ []) (Ref ∷ []) (d .shape) x e in
         aadds-same P sizes f p vs rest h l s room (before (Word ∷ Ref ∷ y .rest) (y .before)) r low (p + 1) (aadds h) (addIndex (l .storage))
-          (λ n i k. stands .answers h (l .storage) (r .heap) n k .aaddss i)
+          (λ n i k. stands .answers (sizes .cells) (sizes .records) h (l .storage) (r .heap) n k .aaddss i)
     act-same Imload x e w =
         let y = replaced f p (variablesAt P f) (Ref ∷ []) (Word ∷ []) (d .shape) x e in
         word-at-same P sizes f p vs rest h l s room (before (Ref ∷ y .rest) (y .before)) r low (p + 1) (imload h) (loadWord (l .storage))
-          (λ n k. (stands .answers h (l .storage) (r .heap) n k .imloads, load-word (l .storage) (r .heap .sound) n k (r .sized)))
+          (λ n k. (stands .answers (sizes .cells) (sizes .records) h (l .storage) (r .heap) n k .imloads, load-word (l .storage) (r .heap .sound) n k (r .sized)))
     act-same Cmload x e w =
         let y = replaced f p (variablesAt P f) (Ref ∷ []) (Word ∷ []) (d .shape) x e in
         word-at-same P sizes f p vs rest h l s room (before (Ref ∷ y .rest) (y .before)) r low (p + 1) (cmload h) (loadByte (l .storage))
-          (λ n k. (stands .answers h (l .storage) (r .heap) n k .cmloads, load-byte (l .storage) (r .heap .sound) n k (r .sized)))
+          (λ n k. (stands .answers (sizes .cells) (sizes .records) h (l .storage) (r .heap) n k .cmloads, load-byte (l .storage) (r .heap .sound) n k (r .sized)))
     act-same Amload x e w =
         let y = replaced f p (variablesAt P f) (Ref ∷ []) (Ref ∷ []) (d .shape) x e in
         reference-at-same P sizes f p vs rest h l s room (before (Ref ∷ y .rest) (y .before)) r low (p + 1) (amload h) (loadReference (l .storage))
-          (λ n k. stands .answers h (l .storage) (r .heap) n k .amloads)
+          (λ n k. stands .answers (sizes .cells) (sizes .records) h (l .storage) (r .heap) n k .amloads)
     act-same Imstore x e w =
         let y = replaced f p (variablesAt P f) (Word ∷ Ref ∷ []) [] (d .shape) x e in
         store-word-same P sizes f p vs rest h l s room (before (Word ∷ Ref ∷ y .rest) (y .before)) r (p + 1) (imstore h) (storeWord (l .storage))
-          (λ n v k. (stands .answers h (l .storage) (r .heap) n k .imstores v, kept-store-word (l .storage) (r .heap .sound) n k (r .sized) v))
+          (λ n v k. (stands .answers (sizes .cells) (sizes .records) h (l .storage) (r .heap) n k .imstores v, kept-store-word (l .storage) (r .heap .sound) n k (r .sized) v))
     act-same Cmstore x e w =
         let y = replaced f p (variablesAt P f) (Word ∷ Ref ∷ []) [] (d .shape) x e in
         store-word-same P sizes f p vs rest h l s room (before (Word ∷ Ref ∷ y .rest) (y .before)) r (p + 1) (cmstore h) (storeByte (l .storage))
-          (λ n v k. (stands .answers h (l .storage) (r .heap) n k .cmstores v, kept-store-byte (l .storage) (r .heap .sound) n k (r .sized) v))
+          (λ n v k. (stands .answers (sizes .cells) (sizes .records) h (l .storage) (r .heap) n k .cmstores v, kept-store-byte (l .storage) (r .heap .sound) n k (r .sized) v))
     act-same Amstore x e w =
         let y = replaced f p (variablesAt P f) (Ref ∷ Ref ∷ []) [] (d .shape) x e in
         store-reference-same P sizes f p vs rest h l s room (before (Ref ∷ Ref ∷ y .rest) (y .before)) r (p + 1) (amstore h) (storeReference (l .storage))
-          (λ n v k j. (stands .answers h (l .storage) (r .heap) n k .amstores v j, kept-store-reference (l .storage) (r .heap .sound) n k (r .sized) v))
+          (λ n v k j. (stands .answers (sizes .cells) (sizes .records) h (l .storage) (r .heap) n k .amstores v j, kept-store-reference (l .storage) (r .heap .sound) n k (r .sized) v))
 
   pub step-same : (c : Conf) (l : State) (s : S) → Sound P plans c → R c l → Same R (step P host sizes c s) (running.step P host l s)
   step-same (conf (frame f p vs st) rest h) l s (d, callers) r =

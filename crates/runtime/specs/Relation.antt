@@ -74,11 +74,9 @@ pub record Represents (P : Program) (sizes : Sizes) (f p : ℕ) (vs : List (Opti
   pub reserves : l .reserved ≡ reserved P (frame f p vs st ∷ rest)
   pub slot-count : length (l .slots) ≡ sizes .slots
   pub frame-count : length (l .frames) ≡ sizes .frames
-  pub cell-count : length (l .storage .cells) ≡ sizes .cells
-  pub record-count : length (l .storage .records) ≡ sizes .records
   pub roomy : reserved P (frame f p vs st ∷ rest) ≤ sizes .slots
   pub free : length rest < sizes .frames
-  pub heap : Match h (l .storage)
+  pub heap : Match (sizes .cells) (sizes .records) h (l .storage)
   pub sized : Sized (l .storage)
 
 abbrev pub Represented : Program → Sizes → Conf → State → Type 0
