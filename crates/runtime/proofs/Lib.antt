@@ -4,3 +4,6 @@ pub mod Framing
 pub mod Simulating
 pub mod Calling
 pub mod Stepping
+pub mod Following
+pub mod Looking
+pub mod Standing

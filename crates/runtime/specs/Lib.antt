@@ -1,2 +1,3 @@
 pub mod Runtime
 pub mod Relation
+pub mod Law
