@@ -4,3 +4,4 @@ pub mod Stacking
 pub mod Pieces
 pub mod Sounding
 pub mod Standing
+pub mod Behaving

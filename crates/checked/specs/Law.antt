@@ -8,7 +8,7 @@ use Rattle.bytecode.specs.declared.kind.Kind.{Kind}
 use Rattle.bytecode.specs.declared.kind.Kind.the-variants.{Word}
 use Rattle.bytecode.specs.declared.stop.Stop.{Stop}
 use Rattle.bytecode.specs.Program.{Program}
-use Rattle.host.specs.Hosts.{Host, Call, Lawful}
+use Rattle.host.specs.Hosts.{Host, Lawful}
 use Rattle.plan.specs.Programs.{functionAt, variablesAt, WellFormed}
 use Rattle.plan.specs.Shapes.{Shape}
 use Rattle.plan.specs.Plans.{Plan, Fullest}
@@ -95,15 +95,3 @@ module _ (S : Type 0) (P : Program) (plans : Plans) (sizes : Sizes) where
     pub stops-alike : (more : Sizes) → NoLess sizes more → (host : Host S) (s : S) (ts us : List Turn) (n : ℕ) (e : Stop) (c : Conf) (t : S)
       → serve (step P host sizes) ts begun s ≡ served (stopped n e c) t → Lasting e → n ≤ allowance us
       → serve (step P host more) us begun s ≡ served (stopped n e c) t
-
--- ## Hosts of every make, by what they do
-
--- What a host does shows in its signatures and in its replies after each list of calls, the newest first.
--- A host of any make does what such a host does, from its state on.
-abbrev pub behaviour : {S : Type 0} → Host S → S → Host (List Call)
-behaviour {S} host s =
-    record { signs = host .signs; replies = λ past c. host .replies (reached past) c; becomes = λ past c. c ∷ past }
-  where
-    reached : List Call → S
-    reached [] = s
-    reached (c ∷ past) = host .becomes (reached past) c
