@@ -113,7 +113,7 @@ module _ {S : Type 0} (host : Host S) (s : S) where
 
   module _ (lawful : Lawful host) where
     -- a call that did not fit leaves the state, so the list of those that fitted leads to the same
-    reached-call : (past : List Call) (c : Call) → reached host s (behaviour host s .becomes past c) ≡ host .becomes (reached host s past) c
+    pub reached-call : (past : List Call) (c : Call) → reached host s (behaviour host s .becomes past c) ≡ host .becomes (reached host s past) c
     reached-call past c = pick (fitting (host .signs (c .index)) (c .arguments)) refl
       where
         pick : (b : Bool) → fitting (host .signs (c .index)) (c .arguments) ≡ b → reached host s (cond b (c ∷ past) past) ≡ host .becomes (reached host s past) c
@@ -197,7 +197,7 @@ module _ {S : Type 0} (host : Host S) (s : S) where
         iterate-seen P sizes k (advance (step P (behaviour host s) sizes) x past .machine) (advance (step P (behaviour host s) sizes) x past .host)
         ∙ ap (λ r. iterate (step P host sizes) k (r .machine) (r .host)) (advance-seen P sizes x past)
 
-    behaviour-lawful : Lawful (behaviour host s)
+    pub behaviour-lawful : Lawful (behaviour host s)
     behaviour-lawful =
         record
           { suits = λ past c g e fit. lawful .suits (reached host s past) c g e fit

@@ -7,3 +7,4 @@ pub mod Stepping
 pub mod Following
 pub mod Looking
 pub mod Standing
+pub mod Behaving

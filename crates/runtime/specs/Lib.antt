@@ -1,3 +1,4 @@
 pub mod Runtime
 pub mod Relation
 pub mod Law
+pub mod Behaviour
