@@ -1,8 +1,8 @@
 // The memory, and the memory instructions on it. References are numbers: 0 is null, p + 1 is text p, (b + 1) * 2^32 + o is offset o of block b.
 ghost use mathlib.Core.Path.{_≡_};
 ghost use mathlib.Core.Bool.{true};
-ghost use Prim.Native.Nat.{ℕ, _+_, _-_, _*_, _/_, _%_, _^_, _<_, _≤_};
-ghost use lib.ListN.{length, getD, set};
+ghost use Prim.Native.Nat.{_+_, _-_, _*_, _/_, _%_, _^_, _<_, _≤_};
+ghost use lib.ListN.{length};
 ghost use Rattle.heap.specs.Storage.{Sound, Known, newSingle, newArray, arrayAt, arrayLength, addIndex, addField, locate, loadWord, loadByte, loadReference, storeWord, storeByte, storeReference, clear, taken, hasRoom};
 ghost use Rattle.heap.specs.Relation.{Names};
 ghost use Rattle.cells.specs.View.{storageOf, attemptOf, leaves, allocates, Unchanged, Within, SameLengths};
