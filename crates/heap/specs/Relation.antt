@@ -22,8 +22,8 @@ pub record Lies (mem : List Cell) (used : ℕ) (r : BlockRecord) (b : Block) : T
   pub ends : r .start + room (b .layout) ≤ used
   pub same : (j : ℕ) → j < room (b .layout) → getD (b .cells) j (plain zeros) ≡ contentOf (getD mem (r .start + j) noCell)
 
--- storage with so many cells and block records in all represents the heap: it is as the code relies on, each block lies in its record's cells, none overlaps another,
--- and as many cells are used as the blocks take
+-- storage with so many cells and block records in all represents the heap: it is as the code relies on, each block lies in
+-- its record's cells, none overlaps another, and as many cells are used as the blocks take
 pub record Match (cells records : ℕ) (h : Heap) (l : Storage) : Type 0 where
   pub cells-are : length (l .cells) ≡ cells
   pub records-are : length (l .records) ≡ records
