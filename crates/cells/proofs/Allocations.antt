@@ -1,16 +1,18 @@
 -- An allocation, from the room that there is and the storage that it leaves: what it gives, and that the storage stays sound.
 use mathlib.Core.Path.{_≡_, refl, sym, ap, ap₂, _∙_, subst}
 use mathlib.Core.Bool.{Bool, true, false, cond}
-use Prim.Native.Nat.{ℕ, _+_, _-_, _*_, _/_, _^_, _<_, _≤_}
+use Prim.Native.Nat.{ℕ, _+_, _*_, _^_, _<_, _≤_}
 use native.Mathlib.Omega.{arith}
-use lib.ListN.{length}
+use lib.ListN.{length, length-set}
 use lib.Dec.{ltb, leb}
 use borrow.Author.Tests.{ltb-true, leb-true}
-use Rattle.bytecode.specs.Stops.{Attempt, gives, stops}
+use Rattle.bytecode.specs.Stops.{gives, stops}
 use Rattle.bytecode.specs.declared.stop.Stop.the-variants.{Cells}
 use Rattle.heap.specs.Checked.{Layout, room}
-use Rattle.heap.specs.Storage.{Storage, Placement, Sound, Known, placed, place, hasRoom}
+use Rattle.heap.specs.Storage.{Storage, Sound, Known, recordOf, placed, place, hasRoom}
+use Rattle.heap.proofs.Clearing.{length-laid}
 use Rattle.heap.proofs.Soundness.{sound-placed}
+use Rattle.cells.specs.View.{SameLengths}
 
 pub record Room (l : Storage) (need : ℕ) : Type 0 where
   pub cells-left : l .used + need ≤ length (l .cells)
@@ -42,3 +44,10 @@ module _ (l : Storage) (how : Layout) (after : Storage) (number : ℕ) (is-room 
 
   pub place-blocks : l .count ≤ after .count
   place-blocks = let e = ap (λ (x : Storage). x .count) is-placed in omega arith
+
+  pub place-lengths : SameLengths l after
+  place-lengths =
+      record {
+        cells = ap (λ (x : Storage). length (x .cells)) is-placed ∙ length-laid (l .cells) (l .used) how;
+        records = ap (λ (x : Storage). length (x .records)) is-placed ∙ length-set (l .records) (l .count) (recordOf (l .used) how);
+      }

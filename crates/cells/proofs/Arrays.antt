@@ -1,12 +1,12 @@
 -- The array that a number names: the number has offset 0, and its elements lie at offsets that fit beside the block's number.
-use mathlib.Core.Path.{_≡_, refl, sym, ap, _∙_, subst}
+use mathlib.Core.Path.{_≡_, refl, subst}
 use mathlib.Core.Bool.{Bool, true, false, cond}
-use Prim.Native.Nat.{ℕ, _+_, _-_, _*_, _/_, _%_, _^_, _<_, _≤_}
+use Prim.Native.Nat.{ℕ, _+_, _*_, _^_, _<_, _≤_}
 use native.Mathlib.Omega.{arith}
 use native.Mathlib.Nat.{mul-le-mul-right}
 use lib.Dec.{eqb, ltb}
 use borrow.Author.Tests.{eqb-true, ltb-true, ltb-false}
-use Rattle.bytecode.specs.Stops.{Attempt, gives, stops}
+use Rattle.bytecode.specs.Stops.{gives, stops}
 use Rattle.bytecode.specs.declared.stop.Stop.the-variants.{Null, Array}
 use Rattle.heap.specs.declared.BlockRecord.{BlockRecord}
 use Rattle.heap.specs.Storage.{Storage, Sound, Known, blockOf, offsetOf, recordIn, arrayAt}

@@ -1,7 +1,6 @@
 -- A store, from the cell that it writes: what it leaves, and that the storage stays sound.
 use mathlib.Core.Path.{_≡_, refl, sym, ap, _∙_, subst}
 use Prim.Native.Nat.{ℕ, _<_}
-use lib.ListN.{set}
 use lib.Seq.{set-getD}
 use native.Mathlib.Omega.{arith}
 use Rattle.std.specs.declared.result.Result.{Result}

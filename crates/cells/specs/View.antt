@@ -2,6 +2,7 @@
 use mathlib.Core.Path.{_≡_}
 use Prim.Native.Nat.{ℕ, _<_}
 use denote.Ref.{now}
+use lib.ListN.{length}
 use Rattle.std.specs.declared.result.Result.{Result}
 use Rattle.std.specs.declared.result.Result.the-variants.{Ok, Err}
 use Rattle.bytecode.specs.declared.stop.Stop.{Stop}
@@ -35,3 +36,8 @@ Unchanged (Err e) before after = after ≡ before
 abbrev pub Within : ℕ → Attempt ℕ → Type 0
 Within bound (gives j) = j < bound
 Within bound (stops e) = Unit {0}
+
+-- as many cells and block records are lent as before
+pub record SameLengths (before after : Storage) : Type 0 where
+  pub cells : length (after .cells) ≡ length (before .cells)
+  pub records : length (after .records) ≡ length (before .records)

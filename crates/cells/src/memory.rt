@@ -1,11 +1,11 @@
 // The memory, and the memory instructions on it. References are numbers: 0 is null, p + 1 is text p, (b + 1) * 2^32 + o is offset o of block b.
 ghost use mathlib.Core.Path.{_≡_};
 ghost use mathlib.Core.Bool.{true};
-ghost use Prim.Native.Nat.{ℕ, _+_, _-_, _*_, _/_, _%_, _^_, _<_, _≤_};
-ghost use lib.ListN.{length, getD, set};
+ghost use Prim.Native.Nat.{_+_, _-_, _*_, _/_, _%_, _^_, _<_, _≤_};
+ghost use lib.ListN.{length};
 ghost use Rattle.heap.specs.Storage.{Sound, Known, newSingle, newArray, arrayAt, arrayLength, addIndex, addField, locate, loadWord, loadByte, loadReference, storeWord, storeByte, storeReference, clear, taken, hasRoom};
 ghost use Rattle.heap.specs.Relation.{Names};
-ghost use Rattle.cells.specs.View.{storageOf, attemptOf, leaves, allocates, Unchanged, Within};
+ghost use Rattle.cells.specs.View.{storageOf, attemptOf, leaves, allocates, Unchanged, Within, SameLengths};
 use crate::content::array_header;
 use crate::content::read_byte;
 use crate::content::read_number;
@@ -179,6 +179,7 @@ impl<'a> Memory<'a> {
         ensures same { λ x. ⌜ Unchanged x (storageOf (now (self .entry))) (storageOf (now (self .exit))) ⌝ }
         ensures sound { λ _. ⌜ Sound (storageOf (now (self .exit))) ⌝ }
         ensures blocks { λ _. ⌜ now (self .exit) .count ≡ now (self .entry) .count ⌝ }
+        ensures lengths { λ _. ⌜ SameLengths (storageOf (now (self .entry))) (storageOf (now (self .exit))) ⌝ }
     {
         let j = self.locate(r, 4)?;
         write_word(&mut self.cells[j], (r % 8) as usize, w)
@@ -192,6 +193,7 @@ impl<'a> Memory<'a> {
         ensures same { λ x. ⌜ Unchanged x (storageOf (now (self .entry))) (storageOf (now (self .exit))) ⌝ }
         ensures sound { λ _. ⌜ Sound (storageOf (now (self .exit))) ⌝ }
         ensures blocks { λ _. ⌜ now (self .exit) .count ≡ now (self .entry) .count ⌝ }
+        ensures lengths { λ _. ⌜ SameLengths (storageOf (now (self .entry))) (storageOf (now (self .exit))) ⌝ }
     {
         let j = self.locate(r, 1)?;
         write_byte(&mut self.cells[j], (r % 8) as usize, w)
@@ -206,6 +208,7 @@ impl<'a> Memory<'a> {
         ensures same { λ x. ⌜ Unchanged x (storageOf (now (self .entry))) (storageOf (now (self .exit))) ⌝ }
         ensures sound { λ _. ⌜ Sound (storageOf (now (self .exit))) ⌝ }
         ensures blocks { λ _. ⌜ now (self .exit) .count ≡ now (self .entry) .count ⌝ }
+        ensures lengths { λ _. ⌜ SameLengths (storageOf (now (self .entry))) (storageOf (now (self .exit))) ⌝ }
     {
         let j = self.locate(r, 8)?;
         write_number(&mut self.cells[j], v)
@@ -243,6 +246,7 @@ impl<'a> Memory<'a> {
         ensures sound { λ _. ⌜ Sound (storageOf (now (self .exit))) ⌝ }
         ensures named { λ x. ⌜ Names (now (self .exit) .count) (attemptOf x) ⌝ }
         ensures blocks { λ _. ⌜ now (self .entry) .count ≤ now (self .exit) .count ⌝ }
+        ensures lengths { λ _. ⌜ SameLengths (storageOf (now (self .entry))) (storageOf (now (self .exit))) ⌝ }
     {
         let need = (s as usize + 7) / 8;
         if !self.has_room(need) {
@@ -269,6 +273,7 @@ impl<'a> Memory<'a> {
         ensures sound { λ _. ⌜ Sound (storageOf (now (self .exit))) ⌝ }
         ensures named { λ x. ⌜ Names (now (self .exit) .count) (attemptOf x) ⌝ }
         ensures blocks { λ _. ⌜ now (self .entry) .count ≤ now (self .exit) .count ⌝ }
+        ensures lengths { λ _. ⌜ SameLengths (storageOf (now (self .entry))) (storageOf (now (self .exit))) ⌝ }
     {
         if n >= 2147483648 {
             return Err(Stop::Length);

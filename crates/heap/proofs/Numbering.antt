@@ -2,12 +2,12 @@
 use mathlib.Core.Path.{_≡_, refl, sym, ap, ap₂, _∙_}
 use mathlib.Core.List.{List}
 use mathlib.Core.Bool.{Bool, true, false, cond}
-use Prim.Native.Nat.{ℕ, _+_, _-_, _*_, _/_, _%_, _^_, _<_, _≤_}
+use Prim.Native.Nat.{ℕ, _+_, _-_, _*_, _^_, _<_}
 use native.Mathlib.Omega.{arith}
 use lib.Dec.{eqb, ltb}
 use Rattle.std.proofs.shelf.Ways.{tells}
 use borrow.Author.Tests.{eqb-true, eqb-false, ltb-false, lt-ltb, ne-eqb, le-ltb}
-use Rattle.heap.specs.Checked.{Reference, null, text, block, allZero}
+use Rattle.heap.specs.Checked.{null, text, block, allZero}
 use Rattle.heap.specs.Storage.{referenceOf, numberOf, blockOf, offsetOf, fromBytes, toBytes}
 
 -- bytes make 0 exactly when all of them are 0

@@ -1,19 +1,19 @@
 -- new and newarray: storage and heap take the same block, or stop alike.
 use mathlib.Core.Path.{_≡_, refl, sym, ap, _∙_, subst, subst₂}
-use mathlib.Core.List.{List, [], _∷_, _++_}
+use mathlib.Core.List.{[], _∷_, _++_}
 use mathlib.Core.Bool.{Bool, true, false, cond}
 use mathlib.Core.Logic.{_≢_}
-use Prim.Native.Nat.{ℕ, _+_, _-_, _*_, _/_, _%_, _^_, _<_, _≤_}
+use Prim.Native.Nat.{ℕ, _+_, _*_, _^_, _<_, _≤_}
 use native.Mathlib.Omega.{arith}
-use lib.ListN.{length, getD, set, length-set, length-append, List·getD-append}
+use lib.ListN.{length, getD, length-set, length-append, List·getD-append}
 use lib.Seq.{getD-set-same, getD-set-other, getD-append-seam}
 use lib.Dec.{ltb, leb}
 use borrow.Author.Tests.{ltb-true, ltb-false, leb-true}
 use Rattle.bytecode.specs.Stops.{gives, stops}
 use Rattle.bytecode.specs.declared.stop.Stop.the-variants.{Cells, Length}
 use Rattle.heap.specs.declared.BlockRecord.{BlockRecord}
-use Rattle.heap.specs.Checked.{block, Allocation, Layout, single, array, Block, Heap, room, freshBlock, noBlock, blockAt, total, allocate, newarray}
-use Rattle.heap.specs.Storage.{Storage, Placement, noCell, noRecord, recordIn, recordOf, referenceOf, placed, place, newArray}
+use Rattle.heap.specs.Checked.{block, Layout, single, array, Block, Heap, room, freshBlock, noBlock, blockAt, total, allocate, newarray}
+use Rattle.heap.specs.Storage.{Storage, noCell, noRecord, recordIn, recordOf, referenceOf, placed, place, newArray}
 use Rattle.heap.specs.Relation.{contentOf, Lies, Match, Same, give, stop, Allocated}
 use Rattle.heap.proofs.Numbering.{referenceOf-block}
 use Rattle.heap.proofs.Clearing.{length-laid, laid-below, laid-in, length-fresh}

@@ -1,9 +1,9 @@
 -- Storage stays sound: at its beginning, with one cell written, and with one block more.
 use mathlib.Core.Path.{_≡_, refl, sym, ap, _∙_, subst}
-use mathlib.Core.List.{List, []}
+use mathlib.Core.List.{List}
 use mathlib.Core.Bool.{Bool, true, false, cond}
 use mathlib.Core.Logic.{_≢_}
-use Prim.Native.Nat.{ℕ, _+_, _-_, _*_, _/_, _%_, _^_, _<_, _≤_}
+use Prim.Native.Nat.{ℕ, _+_, _-_, _%_, _^_, _<_, _≤_}
 use native.Mathlib.Omega.{arith}
 use lib.ListN.{length, getD, set, length-set}
 use lib.Seq.{getD-set-same, getD-set-other}
@@ -12,7 +12,6 @@ use borrow.Author.Tests.{eqb-true, eqb-false, ltb-true, ltb-false, leb-true, leb
 use Rattle.bytecode.specs.Stops.{Attempt, gives, stops}
 use Rattle.bytecode.specs.declared.stop.Stop.the-variants.{Mark}
 use Rattle.heap.specs.declared.Cell.{Cell}
-use Rattle.heap.specs.declared.BlockRecord.{BlockRecord}
 use Rattle.heap.specs.Checked.{Layout, single, array, room, putWord}
 use Rattle.heap.specs.Storage.{Storage, Sound, Bounded, Known, noCell, noRecord, cellIn, recordIn, recordOf, withCell, placed, fromBytes, unmarked, holding, wordInto, byteInto, numberInto}
 use Rattle.heap.proofs.Numbering.{fromBytes-toBytes}

@@ -1,13 +1,13 @@
 -- The theorem from its parts: empty storage represents the empty heap, and every memory instruction agrees.
 use mathlib.Core.Path.{_≡_, refl, sym}
 use mathlib.Core.List.{[]}
-use Prim.Native.Nat.{ℕ, _<_, _^_}
+use Prim.Native.Nat.{_<_, _^_}
 use native.Mathlib.Omega.{arith}
 use lib.ListN.{length}
 use Rattle.heap.specs.Checked.{single}
 use Rattle.heap.specs.Storage.{Storage}
 use Rattle.heap.specs.Relation.{Match}
-use Rattle.heap.specs.Stands.{Stands, Allocates, Answers}
+use Rattle.heap.specs.Stands.{Stands}
 use Rattle.heap.proofs.Numbering.{numberOf-referenceOf}
 use Rattle.heap.proofs.Soundness.{sound-empty}
 use Rattle.heap.proofs.Placing.{allocate-same, newarray-same}

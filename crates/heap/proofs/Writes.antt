@@ -1,17 +1,16 @@
 -- A cell written in a block and where the block lies: storage and heap still match.
-use mathlib.Core.Path.{_≡_, refl, sym, ap, ap₂, _∙_, subst, subst₂}
+use mathlib.Core.Path.{_≡_, refl, sym, ap, _∙_, subst}
 use mathlib.Core.List.{List, [], _∷_}
-use mathlib.Core.Bool.{Bool, true, false, cond}
+use mathlib.Core.Bool.{Bool, true, false}
 use mathlib.Core.Logic.{_≢_}
-use Prim.Native.Nat.{ℕ, zero, suc, _+_, _-_, _*_, _/_, _%_, _^_, _<_, _≤_}
+use Prim.Native.Nat.{ℕ, zero, suc, _+_, _<_, _≤_}
 use native.Mathlib.Omega.{arith}
 use lib.ListN.{length, getD, set, length-set}
 use lib.Seq.{getD-set-same, getD-set-other}
-use lib.Dec.{eqb, ltb, leb}
+use lib.Dec.{eqb, ltb}
 use borrow.Author.Tests.{eqb-true, eqb-false, ltb-true, ltb-false}
 use Rattle.heap.specs.declared.Cell.{Cell}
-use Rattle.heap.specs.declared.BlockRecord.{BlockRecord}
-use Rattle.heap.specs.Checked.{Content, plain, Layout, Block, Heap, room, zeros, noBlock, blockAt, total}
+use Rattle.heap.specs.Checked.{plain, Block, Heap, room, zeros, noBlock, blockAt, total}
 use Rattle.heap.specs.Storage.{Storage, noCell, recordIn, withCell}
 use Rattle.heap.specs.Relation.{contentOf, Lies, Match}
 use Rattle.heap.proofs.Soundness.{Naming, sound-withCell}

@@ -1,15 +1,15 @@
 -- When storage represents the checked machine's heap, and when two attempts agree.
 use mathlib.Core.Path.{_≡_}
-use mathlib.Core.List.{List, [], _∷_}
-use mathlib.Core.Bool.{Bool, true, false, cond}
-use Prim.Native.Nat.{ℕ, zero, suc, _+_, _-_, _*_, _/_, _%_, _^_, _<_, _≤_}
+use mathlib.Core.List.{List}
+use mathlib.Core.Bool.{cond}
+use Prim.Native.Nat.{ℕ, _+_, _<_, _≤_}
 use lib.ListN.{length, getD}
 use Rattle.bytecode.specs.declared.stop.Stop.{Stop}
 use Rattle.bytecode.specs.Stops.{Attempt, gives, stops}
 use Rattle.heap.specs.declared.Cell.{Cell}
 use Rattle.heap.specs.declared.BlockRecord.{BlockRecord}
 use Rattle.heap.specs.Checked.{Reference, Content, plain, marked, Block, Heap, room, zeros, blockAt, total, Allocation}
-use Rattle.heap.specs.Storage.{Storage, Placement, Sound, Known, noCell, cellIn, recordIn, recordOf, referenceOf, fromBytes}
+use Rattle.heap.specs.Storage.{Storage, Placement, Sound, Known, noCell, recordIn, recordOf, referenceOf, fromBytes}
 
 -- a marked cell holds its reference's number, any other its bytes
 abbrev pub contentOf : Cell → Content
@@ -22,8 +22,8 @@ pub record Lies (mem : List Cell) (used : ℕ) (r : BlockRecord) (b : Block) : T
   pub ends : r .start + room (b .layout) ≤ used
   pub same : (j : ℕ) → j < room (b .layout) → getD (b .cells) j (plain zeros) ≡ contentOf (getD mem (r .start + j) noCell)
 
--- storage with so many cells and block records in all represents the heap: it is as the code relies on, each block lies in its record's cells, none overlaps another,
--- and as many cells are used as the blocks take
+-- storage with so many cells and block records in all represents the heap: it is as the code relies on, each block lies in
+-- its record's cells, none overlaps another, and as many cells are used as the blocks take
 pub record Match (cells records : ℕ) (h : Heap) (l : Storage) : Type 0 where
   pub cells-are : length (l .cells) ≡ cells
   pub records-are : length (l .records) ≡ records

@@ -1,6 +1,6 @@
 -- Storage that represents a heap goes on doing so: every memory instruction answers, stops and leaves alike in both.
 use mathlib.Core.Path.{_≡_}
-use mathlib.Core.List.{List, []}
+use mathlib.Core.List.{[]}
 use Prim.Native.Nat.{ℕ, _<_, _^_}
 use lib.ListN.{length}
 use Rattle.heap.specs.Checked.{Heap, new, newarray, arraylength, aadds, aaddf, imload, cmload, amload, imstore, cmstore, amstore}

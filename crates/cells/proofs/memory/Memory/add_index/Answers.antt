@@ -2,7 +2,6 @@ use mathlib.Core.Path.{sym, ap}
 use mathlib.Core.Bool.{cond}
 use native.Mathlib.Omega.{arith}
 use Prim.Native.Nat.{_+_, _*_, _<_}
-use borrow.Author.Needs.{needs}
 use borrow.Author.Tests.{lt-ltb}
 use Rattle.bytecode.specs.Stops.{gives, stops}
 use Rattle.bytecode.specs.declared.stop.Stop.the-variants.{Bounds}

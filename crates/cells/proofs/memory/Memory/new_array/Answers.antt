@@ -3,7 +3,7 @@ use mathlib.Core.Bool.{cond}
 use mathlib.Core.List.{List}
 use native.Mathlib.Omega.{arith}
 use native.Mathlib.Nat.{mul-le-mul}
-use Prim.Native.Nat.{ℕ, _+_, _*_, _/_, _<_, _≤_, _^_}
+use Prim.Native.Nat.{ℕ, _*_, _<_, _≤_, _^_}
 use lib.ListN.{length}
 use borrow.Author.Tests.{lt-ltb}
 use Rattle.bytecode.specs.Stops.{stops}
@@ -12,7 +12,7 @@ use Rattle.heap.specs.Checked.{array, room}
 use Rattle.heap.specs.Storage.{Storage, place, placed, withCell, unmarked}
 use Rattle.heap.proofs.Clearing.{length-clear}
 use Rattle.cells.specs.View.{storageOf}
-use Rattle.cells.proofs.Allocations.{hasRoom-true, place-gives, place-sound, place-known, place-blocks}
+use Rattle.cells.proofs.Allocations.{hasRoom-true, place-gives, place-sound, place-known, place-blocks, place-lengths}
 use Rattle.cells.proofs.memory.Memory.new_array.Needs as need
 
 pub has-room-requires : need.has-room-requires
@@ -50,4 +50,5 @@ returns c =
       sound = place-sound l how after number room is-placed (took .value) (c .pre .sound);
       named = place-known l how after number room is-placed (took .value);
       blocks = place-blocks l how after number room is-placed (took .value);
+      lengths = place-lengths l how after number room is-placed (took .value);
     }

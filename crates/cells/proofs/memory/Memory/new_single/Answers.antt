@@ -1,7 +1,7 @@
 use mathlib.Core.Path.{sym}
 use Rattle.heap.specs.Checked.{single}
 use Rattle.cells.specs.View.{storageOf}
-use Rattle.cells.proofs.Allocations.{place-gives, place-sound, place-known, place-blocks}
+use Rattle.cells.proofs.Allocations.{place-gives, place-sound, place-known, place-blocks, place-lengths}
 use Rattle.cells.proofs.memory.Memory.new_single.Needs as need
 
 pub returns : need.returns
@@ -18,4 +18,5 @@ returns c =
       sound = place-sound l how after number room (took .after) (took .value) (c .pre .sound);
       named = place-known l how after number room (took .after) (took .value);
       blocks = place-blocks l how after number room (took .after) (took .value);
+      lengths = place-lengths l how after number room (took .after) (took .value);
     }

@@ -1,5 +1,6 @@
 use mathlib.Core.Path.{refl}
 use Prim.Native.Nat.{_%_}
+use lib.ListN.{length-set}
 use Rattle.heap.specs.Storage.{cellIn, locate, byteInto}
 use Rattle.heap.proofs.Soundness.{puts-byteInto}
 use Rattle.cells.specs.View.{storageOf}
@@ -22,4 +23,5 @@ returns c =
       sound = sound-left l j after x (byteInto (cellIn l j) (r % 8) w) (c .pre .sound) (found .inside) (wrote .value) (wrote .same)
           (puts-byteInto (l .count) (cellIn l j) (r % 8) w);
       blocks = refl;
+      lengths = record { cells = length-set (l .cells) j after; records = refl };
     }

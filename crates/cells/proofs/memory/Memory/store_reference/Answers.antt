@@ -1,4 +1,5 @@
 use mathlib.Core.Path.{refl}
+use lib.ListN.{length-set}
 use Rattle.heap.specs.Storage.{cellIn, locate, numberInto}
 use Rattle.heap.proofs.Soundness.{puts-numberInto, known-small}
 use Rattle.cells.specs.View.{storageOf}
@@ -22,4 +23,5 @@ returns c =
       sound = sound-left l j after x (numberInto (cellIn l j) v) (c .pre .sound) (found .inside) (wrote .value) (wrote .same)
           (puts-numberInto (l .count) (cellIn l j) v held (known-small l (c .pre .sound) v held));
       blocks = refl;
+      lengths = record { cells = length-set (l .cells) j after; records = refl };
     }
