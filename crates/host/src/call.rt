@@ -11,13 +11,14 @@ pub enum Argument {
     Reference { null: bool },
 }
 
-/// A call of a native: the index in the host's table, the arguments, and the texts of the first two reference arguments.
+/// A call of a native: the index in the host's table, the arguments, the first first, and the texts of the first two
+/// reference arguments. An argument that is not there, and a reference to other than a text, has no bytes.
 #[derive(Clone, Copy)]
-pub struct Call<'a> {
+pub struct Call<'a, 't> {
     pub index: u16,
     pub arguments: &'a [Argument],
-    pub first: Text<'a>,
-    pub second: Text<'a>,
+    pub first: Text<'t>,
+    pub second: Text<'t>,
 }
 
 /// A host's answer to a call: a word, null, a reference argument by its number among them, or a stop.

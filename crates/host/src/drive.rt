@@ -75,7 +75,7 @@ pub impl Host for Drive as DriveHost {
         }
     }
 
-    fn call(&mut self, call: Call<'_>) -> Reply {
+    fn call(&mut self, call: Call<'_, '_>) -> Reply {
         match call.index {
             0 => match one_word(call.arguments) {
                 Some(i) => self.get(i),

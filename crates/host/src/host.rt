@@ -28,7 +28,7 @@ pub trait Host {
         ensures { λ r. ⌜ mapped signatureOf r ≡ make .signs index ⌝ };
 
     /// Answers a call.
-    fn call(&mut self, call: Call<'_>) -> Reply
+    fn call(&mut self, call: Call<'_, '_>) -> Reply
         ensures reply { λ r. ⌜ r ≡ make .replies (state (now (self .entry))) (callOf (call .entry)) ⌝ }
         ensures after { λ _. ⌜ state (now (self .exit)) ≡ make .becomes (state (now (self .entry))) (callOf (call .entry)) ⌝ };
 }

@@ -104,7 +104,7 @@ pub impl<'a> Host for Line<'a> as LineHost {
         }
     }
 
-    fn call(&mut self, call: Call<'_>) -> Reply {
+    fn call(&mut self, call: Call<'_, '_>) -> Reply {
         match call.index {
             16 => {
                 if one_reference(call.arguments) {

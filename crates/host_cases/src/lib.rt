@@ -32,7 +32,7 @@ pub impl Host for Counter as CounterHost {
         if index == 7 { Some(Signature { arguments: &[Kind::Word], result: Kind::Word }) } else { None }
     }
 
-    fn call(&mut self, call: Call<'_>) -> Reply {
+    fn call(&mut self, call: Call<'_, '_>) -> Reply {
         if call.index != 7 {
             return Reply::Stop(HostFault { code: 0 });
         }
