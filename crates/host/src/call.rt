@@ -1,8 +1,7 @@
 // What passes between a machine and a host.
+use crate::text::Text;
 use bytecode::kind::Kind;
 use bytecode::stop::HostFault;
-
-use crate::text::Text;
 
 /// An argument of a call: a word, or a reference, of which a host sees only whether it is null.
 #[derive(Clone, Copy)]
@@ -29,6 +28,9 @@ pub enum Reply {
     Argument(u8),
     Stop(HostFault),
 }
+
+/// What every host replies to arguments that do not fit, and at an index that it has no signature for.
+pub const MISFIT: Reply = Reply::Stop(HostFault { code: 0 });
 
 /// The kinds of a native's arguments and of its result.
 #[derive(Clone, Copy)]

@@ -61,6 +61,7 @@ adds-nothing false given e = refl
 pub counter-lawful : Lawful counterHost
 counter-lawful = record {
   suits = λ s call g signed fit. subst (λ k. Suits k (references (call .arguments)) (counterReplies s (adding call)))
-    (gives-word (eqb (call .index) 7) g signed) (replies-suit s (adding call) _);
+      (gives-word (eqb (call .index) 7) g signed) (replies-suit s (adding call) _);
   misfit = λ s call e. ap (counterReplies s) (adds-nothing (eqb (call .index) 7) (call .arguments) e);
-  keeps = λ s call e. ap (counterBecomes s) (adds-nothing (eqb (call .index) 7) (call .arguments) e) }
+  keeps = λ s call e. ap (counterBecomes s) (adds-nothing (eqb (call .index) 7) (call .arguments) e);
+}

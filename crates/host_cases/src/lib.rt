@@ -1,14 +1,13 @@
 // A third host, beside those that the library has, and cases for all three.
 ghost use Prim.Native.Nat.{ℕ};
 ghost use Rattle.host_cases.specs.Counter.{counterHost, counter-lawful};
-
 use bytecode::kind::Kind;
-use bytecode::stop::HostFault;
+use host::Host;
 use host::call::Argument;
 use host::call::Call;
+use host::call::MISFIT;
 use host::call::Reply;
 use host::call::Signature;
-use host::host::Host;
 
 #[cfg(test)]
 mod tests;
@@ -29,19 +28,26 @@ pub impl Host for Counter as CounterHost {
     ghost lawful = { counter-lawful };
 
     fn signature(&self, index: u16) -> Option<Signature<'_>> {
-        if index == 7 { Some(Signature { arguments: &[Kind::Word], result: Kind::Word }) } else { None }
+        if index == 7 {
+            Some(Signature {
+                arguments: &[Kind::Word],
+                result: Kind::Word,
+            })
+        } else {
+            None
+        }
     }
 
     fn call(&mut self, call: Call<'_, '_>) -> Reply {
         if call.index != 7 {
-            return Reply::Stop(HostFault { code: 0 });
+            return MISFIT;
         }
         match call.arguments {
             [Argument::Word(w)] => {
                 self.sum = self.sum.wrapping_add(*w);
                 Reply::Word(self.sum)
             }
-            _ => Reply::Stop(HostFault { code: 0 }),
+            _ => MISFIT,
         }
     }
 }

@@ -1,21 +1,20 @@
 // Cases for the three hosts and for finding texts.
-use std::test::*;
-
 use crate::Counter;
 use crate::CounterHost;
+use host::Host;
 use host::call::Argument;
 use host::call::Call;
 use host::call::Reply;
 use host::drive::Drive;
 use host::drive::DriveHost;
-use host::host::Host;
 use host::line::Line;
 use host::line::LineHost;
-use host::text::Text;
 use host::text::find_text;
 use host::text::no_text;
+use std::test::*;
 
 const REFERENCE: Argument = Argument::Reference { null: false };
+
 const NULL: Argument = Argument::Reference { null: true };
 
 // The case of a reply, in the order of their declaration, and its number.
@@ -30,15 +29,30 @@ fn shown(reply: Reply) -> (u8, u32) {
 
 // A reply to a call without texts.
 fn ask<H: Host>(host: &mut H, index: u16, arguments: &[Argument]) -> (u8, u32) {
-    shown(host.call(Call { index, arguments, first: no_text(), second: no_text() }))
+    shown(host.call(Call {
+        index,
+        arguments,
+        first: no_text(),
+        second: no_text(),
+    }))
 }
 
 fn print(line: &mut Line<'_>, bytes: &[u8]) -> (u8, u32) {
-    shown(line.call(Call { index: 16, arguments: &[REFERENCE], first: Text { bytes }, second: no_text() }))
+    shown(line.call(Call {
+        index: 16,
+        arguments: &[REFERENCE],
+        first: find_text(bytes, 0),
+        second: no_text(),
+    }))
 }
 
 fn pick<'x>(line: &mut Line<'_>, first: &'x [u8], second: &'x [u8]) -> (u8, u32) {
-    let call = Call { index: 18, arguments: &[REFERENCE, NULL], first: Text { bytes: first }, second: Text { bytes: second } };
+    let call = Call {
+        index: 18,
+        arguments: &[REFERENCE, NULL],
+        first: find_text(first, 0),
+        second: find_text(second, 0),
+    };
     shown(line.call(call))
 }
 
@@ -50,8 +64,14 @@ fn print_int(line: &mut Line<'_>, word: u32) -> (u8, u32) {
 fn drive_words() -> Result<(), Fail> {
     let mut drive = Drive::new();
     check_eq(ask(&mut drive, 0, &[Argument::Word(31)]), (0, 0))?;
-    check_eq(ask(&mut drive, 1, &[Argument::Word(31), Argument::Word(7)]), (0, 0))?;
-    check_eq(ask(&mut drive, 1, &[Argument::Word(31), Argument::Word(8)]), (0, 7))?;
+    check_eq(
+        ask(&mut drive, 1, &[Argument::Word(31), Argument::Word(7)]),
+        (0, 0),
+    )?;
+    check_eq(
+        ask(&mut drive, 1, &[Argument::Word(31), Argument::Word(8)]),
+        (0, 7),
+    )?;
     check_eq(ask(&mut drive, 0, &[Argument::Word(31)]), (0, 8))?;
     check_eq(drive.words().len(), 32)
 }
@@ -61,7 +81,10 @@ fn drive_index_outside() -> Result<(), Fail> {
     let mut drive = Drive::new();
     check_eq(ask(&mut drive, 0, &[Argument::Word(32)]), (3, 1))?;
     check_eq(ask(&mut drive, 0, &[Argument::Word(0xFFFF_FFFF)]), (3, 1))?;
-    check_eq(ask(&mut drive, 1, &[Argument::Word(32), Argument::Word(5)]), (3, 1))
+    check_eq(
+        ask(&mut drive, 1, &[Argument::Word(32), Argument::Word(5)]),
+        (3, 1),
+    )
 }
 
 #[test]
