@@ -27,7 +27,7 @@ pub found-zero : (xs : List ℕ) (i : ℕ) → i < length xs → untilZero xs �
 found-zero xs i h inv z = sym (inv ∙ ap (λ r. take i xs ++ r) (at-zero xs i h z) ∙ append-nil (take i xs))
 
 pub one-further : (xs : List ℕ) (i : ℕ) → i < length xs → untilZero xs ≡ take i xs ++ untilZero (drop i xs) → (getD xs i 0 ≡ 0 → ⊥) →
-  untilZero xs ≡ take (i + 1) xs ++ untilZero (drop (i + 1) xs)
+    untilZero xs ≡ take (i + 1) xs ++ untilZero (drop (i + 1) xs)
 one-further xs i h inv ne =
     inv ∙ ap (λ r. take i xs ++ r) (past-byte xs i h ne) ∙ sym (append-assoc (take i xs) (getD xs i 0 ∷ []) (untilZero (drop (i + 1) xs)))
     ∙ ap (λ f. f ++ untilZero (drop (i + 1) xs)) (sym (take-more xs i 0 h))
@@ -39,7 +39,7 @@ abbrev told : List ℕ → Text
 told bytes = record { bytes = bytes }
 
 pub text-in-rest : (xs : List ℕ) (p size : ℕ) → take size (between p (length xs) xs) ≡ untilZero (between p (length xs) xs) →
-  record { bytes = take (size - 0) (drop 0 (between p (length xs) xs)) } ≡ textAt xs p
+    record { bytes = take (size - 0) (drop 0 (between p (length xs) xs)) } ≡ textAt xs p
 text-in-rest xs p size e =
     let s : size - 0 ≡ size = omega arith in
     ap told (ap (λ n. take n (between p (length xs) xs)) s ∙ e ∙ ap untilZero (between-to-end xs p (length xs) (omega arith)))

@@ -28,7 +28,7 @@ pub nothing-written : (n start : ℕ) (out : List ℕ) → length out ≤ start 
 nothing-written n start out h = sym (ap (λ r. decimal n ++ r) (drop-of-length-le out h) ∙ append-nil (decimal n))
 
 pub two-more : (n left start : ℕ) (out : List ℕ) → n < 2 ^ 32 → left < 2 ^ 32 → length out ≡ 11 → start ≤ 11 →
-  decimal n ≡ decimal left ++ drop start out → 2 ≤ start
+    decimal n ≡ decimal left ++ drop start out → 2 ≤ start
 two-more n left start out hn hl size le e =
     let l = simp (length-append, length-drop) at (ap length e) in
     let f = few n hn in
@@ -41,18 +41,18 @@ put-before start digit out p h =
     drop-set out (start - 1) digit (omega arith) ∙ ap (λ k. digit ∷ drop k out) e
 
 pub digit-more : (n left start : ℕ) (out : List ℕ) → 10 ≤ left → left < 2 ^ 32 → 0 < start → start ≤ length out →
-  decimal n ≡ decimal left ++ drop start out → decimal n ≡ decimal (left / 10) ++ drop (start - 1) (set out (start - 1) (48 + left % 10))
+    decimal n ≡ decimal left ++ drop start out → decimal n ≡ decimal (left / 10) ++ drop (start - 1) (set out (start - 1) (48 + left % 10))
 digit-more n left start out ten hl p h e =
     e ∙ ap (λ r. r ++ drop start out) (decimal-step left ten (omega arith)) ∙ append-assoc (decimal (left / 10)) ((48 + left % 10) ∷ []) (drop start out)
     ∙ ap (λ r. decimal (left / 10) ++ r) (sym (put-before start (48 + left % 10) out p h))
 
 pub all-written : (n left start : ℕ) (out : List ℕ) → n < 2 ^ 32 → left < 10 → 0 < start → start ≤ length out →
-  decimal n ≡ decimal left ++ drop start out → drop (start - 1) (set out (start - 1) (48 + left)) ≡ tens 10 n
+    decimal n ≡ decimal left ++ drop start out → drop (start - 1) (set out (start - 1) (48 + left)) ≡ tens 10 n
 all-written n left start out hn small p h e =
     put-before start (48 + left) out p h ∙ ap (λ r. r ++ drop start out) (sym (decimal-digit left small)) ∙ sym e ∙ decimal-tens n hn
 
 pub sign-before : (z : ℤ) (start : ℕ) (out : List ℕ) → leZ (pos 0) z ≡ false → 0 < start → start ≤ length out →
-  drop start out ≡ tens 10 (natAbs z) → drop (start - 1) (set out (start - 1) 0x2D) ≡ inTens z
+    drop start out ≡ tens 10 (natAbs z) → drop (start - 1) (set out (start - 1) 0x2D) ≡ inTens z
 sign-before (pos n) start out neg p h e = absurd (clash (sym neg ∙ le-leb 0 n (omega arith)))
 sign-before (negsuc n) start out neg p h e =
     let s : suc n ≡ n + 1 = omega arith in

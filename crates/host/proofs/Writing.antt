@@ -35,10 +35,10 @@ has-room xs bs n at e h =
     sym (le-leb (length (take n xs) + length bs) (length xs) (omega arith))
 
 pub pasted : (xs ys bs : List ℕ) (n at : ℕ) → at ≡ min n (length xs) → length bs ≤ length xs - at → ys ≡ paste xs at bs (length bs) →
-  line (length ys) (take (at + length bs) ys) ≡ line (length xs) (take n xs ++ bs)
+    line (length ys) (take (at + length bs) ys) ≡ line (length xs) (take n xs ++ bs)
 pasted xs ys bs n at e h p =
     let r : length ys ≡ length xs = ap length p ∙ length-paste xs at bs (length bs) (omega arith) (omega arith) in
     let w : take (at + length bs) ys ≡ take n xs ++ bs =
-        ap (take (at + length bs)) p ∙ take-paste xs at bs (length bs) (omega arith) (omega arith)
-        ∙ ap (λ t. take at xs ++ t) (take-length bs) ∙ ap (λ t. t ++ bs) (ap (λ k. take k xs) e ∙ take-min n xs) in
+    ap (take (at + length bs)) p ∙ take-paste xs at bs (length bs) (omega arith) (omega arith)
+    ∙ ap (λ t. take at xs ++ t) (take-length bs) ∙ ap (λ t. t ++ bs) (ap (λ k. take k xs) e ∙ take-min n xs) in
     ap (λ room. line room (take (at + length bs) ys)) r ∙ ap (line (length xs)) w

@@ -98,6 +98,6 @@ pub data Suits : Kind → ℕ → Reply → Type 0 where
 -- any others (and all, where there is no signature) get a stop with code 0, and the state is kept
 pub record Lawful {S : Type 0} (host : Host S) : Type 0 where
   pub suits : (s : S) (call : Call) (g : Signature) → host .signs (call .index) ≡ Some g → fits (g .arguments) (call .arguments) ≡ true →
-    Suits (g .result) (references (call .arguments)) (host .replies s call)
+      Suits (g .result) (references (call .arguments)) (host .replies s call)
   pub misfit : (s : S) (call : Call) → fitting (host .signs (call .index)) (call .arguments) ≡ false → host .replies s call ≡ stopWith 0
   pub keeps : (s : S) (call : Call) → fitting (host .signs (call .index)) (call .arguments) ≡ false → host .becomes s call ≡ s

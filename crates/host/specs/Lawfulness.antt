@@ -72,7 +72,7 @@ drive-gives-word false true g e = cc
 drive-gives-word false false g e = cc
 
 drive-asks-nothing : (a b : Bool) (given : List Argument) → fitting (cond a (takes (Word ∷ []) Word) (cond b (takes (Word ∷ Word ∷ []) Word) None)) given ≡ false →
-  cond a (getting (oneWord given)) (cond b (setting (twoWords given)) Drives.other) ≡ Drives.other
+    cond a (getting (oneWord given)) (cond b (setting (twoWords given)) Drives.other) ≡ Drives.other
 drive-asks-nothing true b given e = ap getting (not-one-word given e)
 drive-asks-nothing false true given e = ap setting (not-two-words given e)
 drive-asks-nothing false false given e = refl
@@ -81,7 +81,8 @@ pub drive-lawful : Lawful driveHost
 drive-lawful = record {
   suits = λ words call g signed fit. drive-suits-result words (Drives.requestOf call) (references (call .arguments)) (g .result) (drive-gives-word (eqb (call .index) 0) (eqb (call .index) 1) g signed);
   misfit = λ words call e. ap (driveReplies words) (drive-asks-nothing (eqb (call .index) 0) (eqb (call .index) 1) (call .arguments) e);
-  keeps = λ words call e. ap (driveBecomes words) (drive-asks-nothing (eqb (call .index) 0) (eqb (call .index) 1) (call .arguments) e) }
+  keeps = λ words call e. ap (driveBecomes words) (drive-asks-nothing (eqb (call .index) 0) (eqb (call .index) 1) (call .arguments) e);
+}
 
 -- ## The line host
 
@@ -117,13 +118,13 @@ with-result : (k : Kind) (g : Signature) (n : ℕ) (r : Reply) → k ≡ g .resu
 with-result k g n r e s = subst (λ kind. Suits kind n r) e s
 
 line-suits : (a b d : Bool) (line : Line) (given : List Argument) (first second : List ℕ) (g : Signature) →
-  cond a (takes (Reference ∷ []) Word) (cond b (takes (Word ∷ []) Word) (cond d (takes (Reference ∷ Reference ∷ []) Reference) None)) ≡ Some g →
-  fits (g .arguments) given ≡ true →
-  Suits (g .result) (references given)
+    cond a (takes (Reference ∷ []) Word) (cond b (takes (Word ∷ []) Word) (cond d (takes (Reference ∷ Reference ∷ []) Reference) None)) ≡ Some g →
+    fits (g .arguments) given ≡ true →
+    Suits (g .result) (references given)
     (lineReplies line (
-      cond a (cond (oneReference given) (Lines.write first) Lines.other) (
-      cond b (printing (oneWord given)) (
-      cond d (cond (twoReferences given) (Lines.pick first second) Lines.other) Lines.other))))
+    cond a (cond (oneReference given) (Lines.write first) Lines.other) (
+    cond b (printing (oneWord given)) (
+    cond d (cond (twoReferences given) (Lines.pick first second) Lines.other) Lines.other))))
 line-suits true b d line given first second g e fit =
     with-result Word g (references given) _ (cc) (print-suits (oneReference given) line first (references given))
 line-suits false true d line given first second g e fit = with-result Word g (references given) _ (cc) (number-suits (oneWord given) line (references given))
@@ -134,10 +135,10 @@ line-suits false false true line given first second g e fit =
 line-suits false false false line given first second g e fit = let z : _≡_ {A = ℕ} 0 1 = cc in absurd (let f : ⊥ = omega arith in f)
 
 line-asks-nothing : (a b d : Bool) (given : List Argument) (first second : List ℕ) →
-  fitting (cond a (takes (Reference ∷ []) Word) (cond b (takes (Word ∷ []) Word) (cond d (takes (Reference ∷ Reference ∷ []) Reference) None))) given ≡ false →
-  cond a (cond (oneReference given) (Lines.write first) Lines.other) (
-  cond b (printing (oneWord given)) (
-  cond d (cond (twoReferences given) (Lines.pick first second) Lines.other) Lines.other)) ≡ Lines.other
+    fitting (cond a (takes (Reference ∷ []) Word) (cond b (takes (Word ∷ []) Word) (cond d (takes (Reference ∷ Reference ∷ []) Reference) None))) given ≡ false →
+    cond a (cond (oneReference given) (Lines.write first) Lines.other) (
+    cond b (printing (oneWord given)) (
+    cond d (cond (twoReferences given) (Lines.pick first second) Lines.other) Lines.other)) ≡ Lines.other
 line-asks-nothing true b d given first second e = ap (λ fit. cond fit (Lines.write first) Lines.other) (not-one-reference given e)
 line-asks-nothing false true d given first second e = ap printing (not-one-word given e)
 line-asks-nothing false false true given first second e = ap (λ fit. cond fit (Lines.pick first second) Lines.other) (not-two-references given e)
@@ -146,8 +147,9 @@ line-asks-nothing false false false given first second e = refl
 pub line-lawful : Lawful lineHost
 line-lawful = record {
   suits = λ line call g signed fit.
-    line-suits (eqb (call .index) 16) (eqb (call .index) 17) (eqb (call .index) 18) line (call .arguments) (call .first .bytes) (call .second .bytes) g signed fit;
+      line-suits (eqb (call .index) 16) (eqb (call .index) 17) (eqb (call .index) 18) line (call .arguments) (call .first .bytes) (call .second .bytes) g signed fit;
   misfit = λ line call e. ap (lineReplies line)
-    (line-asks-nothing (eqb (call .index) 16) (eqb (call .index) 17) (eqb (call .index) 18) (call .arguments) (call .first .bytes) (call .second .bytes) e);
+      (line-asks-nothing (eqb (call .index) 16) (eqb (call .index) 17) (eqb (call .index) 18) (call .arguments) (call .first .bytes) (call .second .bytes) e);
   keeps = λ line call e. ap (lineBecomes line)
-    (line-asks-nothing (eqb (call .index) 16) (eqb (call .index) 17) (eqb (call .index) 18) (call .arguments) (call .first .bytes) (call .second .bytes) e) }
+      (line-asks-nothing (eqb (call .index) 16) (eqb (call .index) 17) (eqb (call .index) 18) (call .arguments) (call .first .bytes) (call .second .bytes) e);
+}

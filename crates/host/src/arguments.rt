@@ -1,7 +1,6 @@
 // Arguments taken apart by their kinds.
 ghost use mathlib.Core.Path.{_≡_};
 ghost use Rattle.host.specs.Arguments.{oneWord, twoWords, oneReference, twoReferences};
-
 use crate::call::Argument;
 
 // The word, where there is just one argument, a word.
@@ -39,7 +38,10 @@ pub fn two_references(arguments: &[Argument]) -> bool
     ensures { λ r. ⌜ r ≡ twoReferences (now (arguments .entry)) ⌝ }
 {
     match arguments {
-        [Argument::Reference { null: _ }, Argument::Reference { null: _ }] => true,
+        [
+            Argument::Reference { null: _ },
+            Argument::Reference { null: _ },
+        ] => true,
         _ => false,
     }
 }

@@ -7,19 +7,20 @@ ghost use lib.ListN.{replicate, set};
 ghost use lib.Dec.{ltb};
 ghost use Rattle.host.specs.Drives.{driveHost, reading};
 ghost use Rattle.host.specs.Lawfulness.{drive-lawful};
-
-use bytecode::kind::Kind;
-use bytecode::stop::HostFault;
-
+use crate::Host;
 use crate::arguments::one_word;
 use crate::arguments::two_words;
 use crate::call::Call;
+use crate::call::MISFIT;
 use crate::call::Reply;
 use crate::call::Signature;
-use crate::host::Host;
+use bytecode::kind::Kind;
+use bytecode::stop::HostFault;
 
-const COUNT: u32 = 32;
+// The reply to an index outside 0 to 31.
+const OUTSIDE: Reply = Reply::Stop(HostFault { code: 1 });
 
+/// A host that keeps 32 words, which a program reads and writes by their index.
 #[derive(Drop)]
 pub struct Drive {
     words: [u32; 32],
@@ -43,7 +44,11 @@ impl Drive {
     fn get(&self, i: u32) -> Reply
         ensures { λ r. ⌜ r ≡ reading (now (self .entry) .words) i ⌝ }
     {
-        if i < 32 { Reply::Word(self.words[i as usize]) } else { Reply::Stop(HostFault { code: 1 }) }
+        if i < 32 {
+            Reply::Word(self.words[i as usize])
+        } else {
+            OUTSIDE
+        }
     }
 
     fn set(&mut self, i: u32, word: u32) -> Reply
@@ -69,23 +74,29 @@ pub impl Host for Drive as DriveHost {
 
     fn signature(&self, index: u16) -> Option<Signature<'_>> {
         match index {
-            0 => Some(Signature { arguments: &[Kind::Word], result: Kind::Word }),
-            1 => Some(Signature { arguments: &[Kind::Word, Kind::Word], result: Kind::Word }),
+            0 => Some(Signature {
+                arguments: &[Kind::Word],
+                result: Kind::Word,
+            }),
+            1 => Some(Signature {
+                arguments: &[Kind::Word, Kind::Word],
+                result: Kind::Word,
+            }),
             _ => None,
         }
     }
 
-    fn call(&mut self, call: Call<'_>) -> Reply {
+    fn call(&mut self, call: Call<'_, '_>) -> Reply {
         match call.index {
             0 => match one_word(call.arguments) {
                 Some(i) => self.get(i),
-                None => Reply::Stop(HostFault { code: 0 }),
+                None => MISFIT,
             },
             1 => match two_words(call.arguments) {
                 Some((i, word)) => self.set(i, word),
-                None => Reply::Stop(HostFault { code: 0 }),
+                None => MISFIT,
             },
-            _ => Reply::Stop(HostFault { code: 0 }),
+            _ => MISFIT,
         }
     }
 }

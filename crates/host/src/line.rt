@@ -9,20 +9,22 @@ ghost use mir.Syntax.{w32};
 ghost use Rattle.host.specs.Lines.{Line as LineState, lineHost, lineReplies, lineBecomes, longer, write as writing, inTens};
 ghost use Rattle.host.specs.Lawfulness.{line-lawful};
 ghost use Rattle.host.specs.View.{lineOf, textOf};
-
-use bytecode::kind::Kind;
-use bytecode::stop::HostFault;
-
+use crate::Host;
 use crate::arguments::one_reference;
 use crate::arguments::one_word;
 use crate::arguments::two_references;
 use crate::call::Call;
+use crate::call::MISFIT;
 use crate::call::Reply;
 use crate::call::Signature;
-use crate::host::Host;
 use crate::tens::ROOM;
 use crate::tens::write_number;
 use crate::text::Text;
+use bytecode::kind::Kind;
+use bytecode::stop::HostFault;
+
+// The reply where bytes do not fit.
+const NO_ROOM: Reply = Reply::Stop(HostFault { code: 3 });
 
 /// A host that writes to a lent buffer; bytes below its length are written.
 #[derive(Drop)]
@@ -43,7 +45,11 @@ fn overwrite(room: &mut [u8], at: usize, bytes: &[u8])
 fn pick(first: Text<'_>, second: Text<'_>) -> Reply
     ensures { λ r. ⌜ r ≡ longer (textOf (first .entry) .bytes) (textOf (second .entry) .bytes) ⌝ }
 {
-    if first.bytes.len() < second.bytes.len() { Reply::Argument(1) } else { Reply::Argument(0) }
+    if first.bytes.len() < second.bytes.len() {
+        Reply::Argument(1)
+    } else {
+        Reply::Argument(0)
+    }
 }
 
 impl<'a> Line<'a> {
@@ -69,7 +75,7 @@ impl<'a> Line<'a> {
     {
         let at = self.len.min(self.room.len());
         if self.room.len() - at < bytes.len() {
-            return Reply::Stop(HostFault { code: 3 });
+            return NO_ROOM;
         }
         overwrite(&mut *self.room, at, bytes);
         self.len = at + bytes.len();
@@ -97,32 +103,41 @@ pub impl<'a> Host for Line<'a> as LineHost {
 
     fn signature(&self, index: u16) -> Option<Signature<'_>> {
         match index {
-            16 => Some(Signature { arguments: &[Kind::Reference], result: Kind::Word }),
-            17 => Some(Signature { arguments: &[Kind::Word], result: Kind::Word }),
-            18 => Some(Signature { arguments: &[Kind::Reference, Kind::Reference], result: Kind::Reference }),
+            16 => Some(Signature {
+                arguments: &[Kind::Reference],
+                result: Kind::Word,
+            }),
+            17 => Some(Signature {
+                arguments: &[Kind::Word],
+                result: Kind::Word,
+            }),
+            18 => Some(Signature {
+                arguments: &[Kind::Reference, Kind::Reference],
+                result: Kind::Reference,
+            }),
             _ => None,
         }
     }
 
-    fn call(&mut self, call: Call<'_>) -> Reply {
+    fn call(&mut self, call: Call<'_, '_>) -> Reply {
         match call.index {
             16 => {
                 if one_reference(call.arguments) {
                     return self.write(call.first.bytes);
                 }
-                Reply::Stop(HostFault { code: 0 })
+                MISFIT
             }
             17 => match one_word(call.arguments) {
                 Some(word) => self.print_int(word),
-                None => Reply::Stop(HostFault { code: 0 }),
+                None => MISFIT,
             },
             18 => {
                 if two_references(call.arguments) {
                     return pick(call.first, call.second);
                 }
-                Reply::Stop(HostFault { code: 0 })
+                MISFIT
             }
-            _ => Reply::Stop(HostFault { code: 0 }),
+            _ => MISFIT,
         }
     }
 }

@@ -27,7 +27,9 @@ pub fn find_text(strings: &[u8], position: usize) -> Text<'_>
     }
     let rest = &strings[position..strings.len()];
     let size = before_zero(rest);
-    Text { bytes: &rest[0..size] }
+    Text {
+        bytes: &rest[0..size],
+    }
 }
 
 // How many bytes stand before the first 00, or in all where there is none.

@@ -21,7 +21,6 @@ pub chosen-second : {A : Type 0} (b : Bool) (x y : A) → false ≡ b → y ≡ 
 chosen-second b x y e = ap (λ t. cond t x y) e
 
 module _ {T : Type 0} where
-
   length-held : (xs : List T) (n : ℕ) → n ≤ length xs → length (reverse (take n xs)) ≡ n
   length-held xs n h = length-reverse (take n xs) ∙ length-take-le n xs h
 
@@ -66,7 +65,7 @@ module _ {T : Type 0} where
       let q : i < length (take n xs) = subst (λ k. i < k) (sym t) p in
       let l : i < length (reverse (take n xs)) = subst (λ k. i < k) (sym (length-held xs n h)) p in
       let r : getD (reverse (take n xs)) i d ≡ getD xs ((n - 1) - i) d =
-          getD-reverse (take n xs) i d q ∙ ap (λ k. getD (take n xs) ((k - 1) - i) d) t ∙ getD-take n xs ((n - 1) - i) d (omega arith) in
+      getD-reverse (take n xs) i d q ∙ ap (λ k. getD (take n xs) ((k - 1) - i) d) t ∙ getD-take n xs ((n - 1) - i) d (omega arith) in
       ap Some (sym r) ∙ sym (nth-getD (reverse (take n xs)) i d l)
 
   pub no-depth : (xs : List T) (n i : ℕ) → n ≤ i → n ≤ length xs → None ≡ nth (reverse (take n xs)) i
@@ -79,7 +78,7 @@ module _ {T : Type 0} where
   cut-off xs n m p h =
       let front : List T = reverse (drop m (take n xs)) in
       let e : reverse (take n xs) ≡ front ++ reverse (take m xs) =
-          ap reverse (sym (take-append-drop m (take n xs))) ∙ reverse-append (take m (take n xs)) (drop m (take n xs))
-          ∙ ap (λ zs. reverse (drop m (take n xs)) ++ reverse zs) (take-take m n xs p) in
+      ap reverse (sym (take-append-drop m (take n xs))) ∙ reverse-append (take m (take n xs)) (drop m (take n xs))
+      ∙ ap (λ zs. reverse (drop m (take n xs)) ++ reverse zs) (take-take m n xs p) in
       let l : length front ≡ n - m = length-reverse (drop m (take n xs)) ∙ length-drop m (take n xs) ∙ ap (λ k. k - m) (length-take-le n xs h) in
       sym (ap (drop (n - m)) e ∙ ap (λ k. drop k (front ++ reverse (take m xs))) (sym l) ∙ drop-append-seam front (reverse (take m xs)))

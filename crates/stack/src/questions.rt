@@ -4,7 +4,6 @@ ghost use Prim.Native.Nat.{ℕ, _-_, _<_, _≤_};
 ghost use lib.ListN.{getD, take, drop};
 ghost use Rattle.std.specs.Finite.{nth};
 ghost use Rattle.stack.specs.Stacks.{entries, limit, stored, held, Sound};
-
 use crate::Stack;
 
 impl<'a, T: Copy> Stack<'a, T> {
@@ -31,7 +30,11 @@ impl<'a, T: Copy> Stack<'a, T> {
         ensures value { λ r. ⌜ r ≡ nth (held (now (self .entry))) depth ⌝ }
         ensures same { λ _. ⌜ now (self .exit) ≡ now (self .entry) ⌝ }
     {
-        if depth < self.len { Some(self.room[self.len - 1 - depth]) } else { None }
+        if depth < self.len {
+            Some(self.room[self.len - 1 - depth])
+        } else {
+            None
+        }
     }
 
     /// The entry at a position, the oldest at 0.
@@ -40,7 +43,11 @@ impl<'a, T: Copy> Stack<'a, T> {
         ensures value { λ r. ⌜ r ≡ nth (stored (now (self .entry))) i ⌝ }
         ensures same { λ _. ⌜ now (self .exit) ≡ now (self .entry) ⌝ }
     {
-        if i < self.len { Some(self.room[i]) } else { None }
+        if i < self.len {
+            Some(self.room[i])
+        } else {
+            None
+        }
     }
 
     /// The lent entry at a position, held or not.

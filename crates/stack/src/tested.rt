@@ -7,7 +7,6 @@ ghost use lib.Dec.{ltb};
 ghost use Rattle.std.specs.Finite.{nth};
 ghost use Rattle.std.specs.Results.{isOk};
 ghost use Rattle.stack.specs.Stacks.{entries, limit, stored, held, pushed, older, Sound};
-
 use crate::Full;
 use crate::NoEntry;
 use crate::Stack;

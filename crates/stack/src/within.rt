@@ -3,7 +3,6 @@ ghost use mathlib.Core.Path.{_≡_};
 ghost use Prim.Native.Nat.{ℕ, _+_, _-_, _<_, _≤_};
 ghost use lib.ListN.{getD, set};
 ghost use Rattle.stack.specs.Stacks.{entries, limit, Sound};
-
 use crate::Stack;
 
 impl<'a, T: Copy> Stack<'a, T> {

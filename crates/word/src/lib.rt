@@ -5,7 +5,6 @@ ghost use lib.IntN.{ℤ};
 ghost use lib.Signed.{quotZ, remZ};
 ghost use Rattle.word.specs.Samples.{Samples, Modulus, answers};
 ghost use Rattle.word.specs.Words.{compute as computed, holds as compared, attempted, undivided as stopping, valueOf, wrap};
-
 use bytecode::instruction::Operation;
 use bytecode::instruction::Order;
 use bytecode::stop::Stop;
@@ -17,7 +16,11 @@ fn undivided(x: u32, y: u32) -> bool
     if y == 0 {
         return true;
     }
-    if x == 0x8000_0000 { y == 0xFFFF_FFFF } else { false }
+    if x == 0x8000_0000 {
+        y == 0xFFFF_FFFF
+    } else {
+        false
+    }
 }
 
 // The quotient, its fraction dropped.
@@ -25,7 +28,9 @@ fn quotient(x: u32, y: u32) -> u32
     requires { ⌜ 0 < y ⌝ }
     ensures { λ r. ⌜ r ≡ wrap (quotZ (valueOf x) (valueOf y)) ⌝ }
 {
-    x.cast_signed().wrapping_div(y.cast_signed()).cast_unsigned()
+    x.cast_signed()
+        .wrapping_div(y.cast_signed())
+        .cast_unsigned()
 }
 
 // The remainder, with the sign of the dividend.
@@ -33,7 +38,9 @@ fn remainder(x: u32, y: u32) -> u32
     requires { ⌜ 0 < y ⌝ }
     ensures { λ r. ⌜ r ≡ wrap (remZ (valueOf x) (valueOf y)) ⌝ }
 {
-    x.cast_signed().wrapping_rem(y.cast_signed()).cast_unsigned()
+    x.cast_signed()
+        .wrapping_rem(y.cast_signed())
+        .cast_unsigned()
 }
 
 /// What an operation makes of two words, of which `y` was on top; division may stop.

@@ -30,4 +30,5 @@ returns c =
     record {
       stand = record { quotient = refl; remainder = refl; overflow = refl; overflowed = refl; shift = refl; byte = refl; extended = refl };
       answers = cc;
-      modulus = wrap-modulus }
+      modulus = wrap-modulus;
+    }

@@ -20,10 +20,12 @@ sub-start c = let two = inside c in omega arith
 
 pub loop-left-again : need.loop-left-again
 loop-left-again c =
-    let two = inside c in
-    (omega arith, omega arith,
-     digit-more (c .args .n) (c .loop-left .left) (c .loop-left .start) (c .loop-left .out) (c .loop-left-test .taken) (omega arith) (omega arith) (omega arith)
-       (c .loop-left .inv .2))
+    let two = inside c in (
+      omega arith,
+      omega arith,
+      digit-more (c .args .n) (c .loop-left .left) (c .loop-left .start) (c .loop-left .out) (c .loop-left-test .taken) (omega arith) (omega arith) (omega arith)
+          (c .loop-left .inv .2),
+    )
 
 pub sub-start-2 : need.sub-start-2
 sub-start-2 c = let two = past c in omega arith
@@ -35,5 +37,6 @@ returns c =
       below = omega arith;
       within = omega arith;
       text =
-        all-written (c .args .n) (c .loop-left .left) (c .loop-left .start) (c .loop-left .out) (omega arith) (c .loop-left-test .left) (omega arith) (omega arith)
-          (c .loop-left .inv .2) }
+          all-written (c .args .n) (c .loop-left .left) (c .loop-left .start) (c .loop-left .out) (omega arith) (c .loop-left-test .left) (omega arith) (omega arith)
+          (c .loop-left .inv .2);
+    }

@@ -13,4 +13,5 @@ returns g c =
       value = popped (s .room .now) (s .len) d some (c .pre .sound);
       entries = refl {a = s .room .now};
       len = refl {a = s .len - 1};
-      held = popped-off (s .room .now) (s .len) d some (c .pre .sound) }
+      held = popped-off (s .room .now) (s .len) d some (c .pre .sound);
+    }

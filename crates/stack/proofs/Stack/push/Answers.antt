@@ -14,7 +14,8 @@ returns-then-self g c =
       answer = room;
       entries = refl {a = set (s .room .now) (s .len) (c .args .x)};
       len = chosen-first _ (s .len + 1) (s .len) room;
-      held = pushed-on (s .room .now) (s .len) (c .args .x) (c .if-self .taken) }
+      held = pushed-on (s .room .now) (s .len) (c .args .x) (c .if-self .taken);
+    }
 
 pub returns-else-self : need.returns-else-self
 returns-else-self g c =
@@ -24,4 +25,5 @@ returns-else-self g c =
       answer = full;
       entries = sym (set-past (s .room .now) (s .len) (c .args .x) (c .if-self .left));
       len = chosen-second _ (s .len + 1) (s .len) full;
-      held = not-pushed (s .room .now) (s .len) (c .args .x) (c .if-self .left) }
+      held = not-pushed (s .room .now) (s .len) (c .args .x) (c .if-self .left);
+    }

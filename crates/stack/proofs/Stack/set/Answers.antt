@@ -13,7 +13,8 @@ returns-then-i-self g c =
       answer = there;
       entries = chosen-first _ (set (s .room .now) (c .args .i) (c .args .x)) (s .room .now) there;
       len = refl {a = s .len};
-      stored = take-set-lt (s .len) (s .room .now) (c .args .i) (c .args .x) (c .if-i-self .taken) }
+      stored = take-set-lt (s .len) (s .room .now) (c .args .i) (c .args .x) (c .if-i-self .taken);
+    }
 
 pub returns-else-i-self : need.returns-else-i-self
 returns-else-i-self g c =
@@ -23,4 +24,5 @@ returns-else-i-self g c =
       answer = past;
       entries = chosen-second _ (set (s .room .now) (c .args .i) (c .args .x)) (s .room .now) past;
       len = refl {a = s .len};
-      stored = written-past (s .room .now) (s .len) (c .args .i) (c .args .x) (c .if-i-self .left) (c .pre .sound) }
+      stored = written-past (s .room .now) (s .len) (c .args .i) (c .args .x) (c .if-i-self .left) (c .pre .sound);
+    }

@@ -17,9 +17,10 @@ returns c =
     let line = lineOf (c .args .self .now) in
     let fits : SFits w32 (c .cast-signed .result) = search needs in
     let whole : take (11 - n .result) (drop (n .result) (n .last .out)) ≡ drop (n .result) (n .last .out) =
-        between-to-end (n .last .out) (n .result) 11 (omega arith) in
+    between-to-end (n .last .out) (n .result) 11 (omega arith) in
     let text : take (11 - n .result) (drop (n .result) (n .last .out)) ≡ inTens (toZ w32 (c .args .word)) =
-        whole ∙ n .ensures .text ∙ ap inTens (toZ-ofZ w32 (c .cast-signed .result) fits ∙ c .cast-signed .ensures) in
+    whole ∙ n .ensures .text ∙ ap inTens (toZ-ofZ w32 (c .cast-signed .result) fits ∙ c .cast-signed .ensures) in
     record {
       reply = c .write .ensures .reply ∙ ap (λ bytes. lineReplies line (write bytes)) text;
-      after = c .write .ensures .after ∙ ap (λ bytes. lineBecomes line (write bytes)) text }
+      after = c .write .ensures .after ∙ ap (λ bytes. lineBecomes line (write bytes)) text;
+    }

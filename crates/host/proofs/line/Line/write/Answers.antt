@@ -16,5 +16,6 @@ returns c =
     record {
       reply = chosen-first _ _ _ room;
       after =
-        pasted (s .room .now) (c .overwrite .last .room) bs (s .len) (c .min-at .result) (c .min-at .ensures) (c .if-self-at .left) (c .overwrite .ensures)
-        ∙ chosen-first _ _ _ room }
+          pasted (s .room .now) (c .overwrite .last .room) bs (s .len) (c .min-at .result) (c .min-at .ensures) (c .if-self-at .left) (c .overwrite .ensures)
+          ∙ chosen-first _ _ _ room;
+    }
