@@ -1,5 +1,5 @@
 -- What a package that was read stands for, and what is known of it.
-use Prim.Native.Nat.{ℕ, _+_, _-_, _*_, _<_, _≤_}
+use Prim.Native.Nat.{ℕ, _+_, _-_, _*_, _^_, _<_, _≤_}
 use mathlib.Core.Path.{_≡_}
 use mathlib.Core.List.{List, [], _∷_, map}
 use denote.Ref.{now}
@@ -70,9 +70,11 @@ noNativeRecord = record { arguments = 0; index = 0; kinds = 0 }
 
 -- ## What the checks leave
 
--- integers and strings inside the bytes; strings end with 0
+-- a package of at most 16,384 bytes; integers and strings inside the bytes; integers are words; strings end with 0
 pub record FrontFits (bs : List ℕ) (integers count strings size : ℕ) : Type 0 where
+  pub short : length bs ≤ 16384
   pub integersInside : integers + 4 * count ≤ length bs
+  pub words : (k : ℕ) → k < count → four bs (integers + 4 * k) < 2 ^ 32
   pub stringsInside : strings + size ≤ length bs
   pub stringsEnd : 0 < size → byte bs (strings + size - 1) ≡ 0
 

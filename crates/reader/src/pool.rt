@@ -1,12 +1,12 @@
 // The pools of a package: integers, strings, functions, natives.
 ghost use mathlib.Core.Path.{_≡_};
 ghost use mathlib.Core.List.{map};
-ghost use Prim.Native.Nat.{ℕ, _+_, _*_, _-_, _<_, _≤_};
+ghost use Prim.Native.Nat.{ℕ, _+_, _*_, _-_, _^_, _<_, _≤_};
 ghost use lib.ListN.{length, take};
 ghost use Rattle.std.specs.Vec.{made};
 ghost use Rattle.std.specs.shelf.Lists.{All};
 ghost use Rattle.bytecode.specs.Outcome.{told};
-ghost use Rattle.reader.specs.Fields.{byte as byteOf, bytesFrom};
+ghost use Rattle.reader.specs.Fields.{byte as byteOf, four, bytesFrom};
 ghost use Rattle.reader.specs.Layout.{integersAt, stringsAt, functionAt, functionsAt, nativeAt, nativesAt, codeBytes};
 ghost use Rattle.reader.specs.View.{integersFrom, functionEntryOf, nativeEntryOf, FunctionFits, FunctionsFit, NativeFits};
 use crate::field::block;
@@ -27,6 +27,7 @@ pub(crate) fn skip_integers(bytes: &[u8], count: usize, offset: usize) -> Result
     ensures met { λ r. ⌜ integersAt (now (bytes .entry)) count offset ≡ told (λ q. record { value = integersFrom (now (bytes .entry)) offset count; after = q }) r ⌝ }
     ensures room { λ r. ⌜ made r (λ q. q ≤ length (now (bytes .entry))) ⌝ }
     ensures inside { λ r. ⌜ made r (λ q. q ≡ offset + 4 * count) ⌝ }
+    ensures words { λ r. ⌜ made r (λ _. (k : ℕ) → k < count → four (now (bytes .entry)) (offset + 4 * k) < 2 ^ 32) ⌝ }
 {
     let mut after = offset;
     for i in 0..count {

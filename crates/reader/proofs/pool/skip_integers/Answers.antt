@@ -1,4 +1,4 @@
-use Prim.Native.Nat.{_+_}
+use Prim.Native.Nat.{ℕ, _+_, _*_}
 use mathlib.Core.Path.{_≡_, _∙_, ap}
 use native.Mathlib.Omega.{arith}
 use Rattle.std.proofs.shelf.Results.{err-from-errBy}
@@ -19,6 +19,7 @@ returns-in-Break-block c =
           (integer-cut _ _ _ (c .in-Break-block .ensures tt .met));
       room = tt;
       inside = tt;
+      words = tt;
     })
 
 pub loop-i-again : need.loop-i-again
@@ -41,4 +42,11 @@ returns c =
           (ap (integersFrom (c .args .bytes .now) (c .args .offset)) e);
       room = c .loop-i .inv .1;
       inside = omega (arith, c .loop-i .inv .2);
+      words = λ k lt.
+          let p : ℕ = c .args .offset + 4 * k in
+          let a = c .typed .bytes p in
+          let b = c .typed .bytes (p + 1) in
+          let d = c .typed .bytes (p + 2) in
+          let f = c .typed .bytes (p + 2 + 1) in
+          omega arith;
     }
