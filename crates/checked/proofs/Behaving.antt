@@ -186,7 +186,7 @@ module _ {S : Type 0} (host : Host S) (s : S) where
     advance-seen : (P : Program) (sizes : Sizes) (x : Status Conf) (past : List Call)
       → seenRun (advance (step P (behaviour host s) sizes) x past) ≡ advance (step P host sizes) x (reached host s past)
     advance-seen P sizes (live n c) past = after-seen n c (step P (behaviour host s) sizes c past) ∙ ap (after n c) (step-seen P sizes past c)
-    advance-seen P sizes (ended n w) past = refl
+    advance-seen P sizes (ended n w c) past = refl
     advance-seen P sizes (stopped n e c) past = refl
     advance-seen P sizes (broken n c) past = refl
 

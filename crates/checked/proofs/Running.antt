@@ -6,19 +6,20 @@ use Prim.Native.Nat.{ℕ, zero, suc, _+_, _-_, _≤_, _<_}
 use native.Mathlib.Nat.{zero-add, suc-add}
 use native.Mathlib.Omega.{arith}
 use Rattle.bytecode.specs.declared.stop.Stop.{Stop}
-use Rattle.checked.specs.Runs.{Next, goes, ends, stops, breaks, Status, live, ended, stopped, broken, Served, served, after, advance, iterate, Turn, run, look, allowance, serve, Lasting}
+use Rattle.host.specs.Hosts.{Host}
+use Rattle.checked.specs.Runs.{Next, goes, ends, stops, breaks, Status, live, ended, stopped, broken, Served, served, after, advance, iterate, Turn, run, look, allowance, serve, Machine, handleAll, threaded, Lasting}
 
 -- a machine that makes no more steps
 abbrev pub Over : {C : Type 0} → Status C → Type 0
 Over (live n c) = ⊥
-Over (ended n w) = Unit {0}
+Over (ended n w c) = Unit {0}
 Over (stopped n e c) = Unit {0}
 Over (broken n c) = Unit {0}
 
 -- the steps that a machine has made
 abbrev pub made : {C : Type 0} → Status C → ℕ
 made (live n c) = n
-made (ended n w) = n
+made (ended n w c) = n
 made (stopped n e c) = n
 made (broken n c) = n
 
@@ -26,7 +27,7 @@ module _ {C S : Type 0} (step : C → S → Next C S) where
   pub stays : (k : ℕ) (x : Status C) (s : S) → Over x → iterate step k x s ≡ served x s
   stays zero x s o = refl
   stays (suc k) (live n c) s o = absurd o
-  stays (suc k) (ended n w) s o = stays k (ended n w) s o
+  stays (suc k) (ended n w c) s o = stays k (ended n w c) s o
   stays (suc k) (stopped n e c) s o = stays k (stopped n e c) s o
   stays (suc k) (broken n c) s o = stays k (broken n c) s o
 
@@ -48,6 +49,13 @@ module _ {C S : Type 0} (step : C → S → Next C S) where
       let q : j + (k - j) ≡ k = omega arith in
       rw (← q) (iterate-add j (k - j) x s ∙ ap (λ r. iterate step (k - j) (r .machine) (r .host)) h ∙ stays (k - j) y t o)
 
+-- turns with one host are requests, each with the host as the one before it left it
+module _ {C S : Type 0} (M : Machine C S) (host : Host S) where
+  pub threads : (ts : List Turn) (x : Status C) (s : S) → handleAll M (threaded M host ts x s) x ≡ serve (M .step host) ts x s .machine
+  threads [] x s = refl
+  threads (run k ∷ ts) x s = threads ts (iterate (M .step host) k x s .machine) (iterate (M .step host) k x s .host)
+  threads (look j ∷ ts) x s = threads ts x s
+
 -- a machine that came to be over made as many steps as it says, and a run of just those steps gets there
 module _ {C S : Type 0} (step : C → S → Next C S) (y : Status C) (t : S) (o : Over y) where
   abbrev Used : ℕ → Status C → S → Type 0
@@ -64,7 +72,7 @@ module _ {C S : Type 0} (step : C → S → Next C S) (y : Status C) (t : S) (o 
     → (z : Next C S) → iterate step k (after n c z .machine) (after n c z .host) ≡ served y t
     → Used (suc n) (after n c z .machine) (after n c z .host)
   used-next k n c again (goes d s) h = again (suc n) d s h
-  used-next k n c again (ends w s) h = used-over k (suc n) (ended (suc n) w) s tt refl h
+  used-next k n c again (ends w s) h = used-over k (suc n) (ended (suc n) w c) s tt refl h
   used-next k n c again (stops e s) h = used-over k (suc n) (stopped (suc n) e c) s tt refl h
   used-next k n c again (breaks s) h = used-over k (suc n) (broken (suc n) c) s tt refl h
 
@@ -85,7 +93,7 @@ Capped (breaks s) = ⊥
 -- not stopped for want of memory
 abbrev pub Uncapped : {C : Type 0} → Status C → Type 0
 Uncapped (live n c) = Unit {0}
-Uncapped (ended n w) = Unit {0}
+Uncapped (ended n w c) = Unit {0}
 Uncapped (stopped n e c) = Lasting e
 Uncapped (broken n c) = Unit {0}
 
@@ -102,7 +110,7 @@ module _ {C S : Type 0} (step big : C → S → Next C S) (grows : (c : C) (s : 
 
   pub bigger : (k : ℕ) (x : Status C) (s : S) → iterate step k x s ≡ served y t → iterate big k x s ≡ served y t
   bigger zero x s h = h
-  bigger (suc k) (ended n w) s h = bigger k (ended n w) s h
+  bigger (suc k) (ended n w c) s h = bigger k (ended n w c) s h
   bigger (suc k) (stopped n e c) s h = bigger k (stopped n e c) s h
   bigger (suc k) (broken n c) s h = bigger k (broken n c) s h
   bigger (suc k) (live n c) s h =

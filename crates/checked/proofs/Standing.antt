@@ -1,4 +1,4 @@
--- The law over every list of presses, from what one step keeps and from the laws of runs.
+-- The law over every list of requests, from what one step keeps and from the laws of runs.
 use mathlib.Core.Path.{_≡_, refl, sym, ap, _∙_, subst}
 use mathlib.Core.List.{List, [], _∷_, _++_, map}
 use Prim.Native.Nat.{ℕ, zero, suc, _+_, _-_, _≤_, _<_}
@@ -12,11 +12,11 @@ use Rattle.bytecode.specs.Program.{Program, Function}
 use Rattle.host.specs.Hosts.{Host, Lawful}
 use Rattle.plan.specs.Programs.{nth, functionAt, variablesAt, noFunction}
 use Rattle.plan.specs.Plans.{entryOf}
-use Rattle.checked.specs.Runs.{Next, goes, ends, stops, breaks, Status, live, ended, stopped, broken, Served, served, after, advance, iterate, Press, run, look, press, presses, Turn, allowance, serve, Lasting}
+use Rattle.checked.specs.Runs.{Next, goes, ends, stops, breaks, Status, live, ended, stopped, broken, Served, served, after, advance, iterate, Request, run, look, handle, handleAll, Turn, allowance, serve, Lasting}
 use Rattle.checked.specs.Machine.{Value, kindOf, Frame, frame, Conf, conf, Sizes, step, begins, checkedMachine}
 use Rattle.checked.specs.Law.{Plans, Accepted, NoLess, Shows, Await, Planned, Kept, KeepsLaws, AllKeepLaws, begun, Law}
 use Rattle.checked.specs.Sound.{Holding, Fits, Callers, main, more, Sound}
-use Rattle.checked.proofs.Running.{iterate-add, twins}
+use Rattle.checked.proofs.Running.{iterate-add, threads, twins}
 use Rattle.checked.proofs.Growing.{step-grows}
 use Rattle.checked.proofs.Pieces.{nth-getD, nth-some, entry-holding}
 use Rattle.checked.proofs.Sounding.{Fine, fits-at, step-fine}
@@ -25,7 +25,7 @@ module _ (P : Program) (plans : Plans) (ok : Accepted P plans) where
   -- a machine whose frames are sound, if it has any, and that is not broken
   abbrev pub Sane : Status Conf → Type 0
   Sane (live n c) = Sound P plans c
-  Sane (ended n w) = Unit {0}
+  Sane (ended n w c) = Unit {0}
   Sane (stopped n e c) = Sound P plans c
   Sane (broken n c) = ⊥
 
@@ -49,7 +49,7 @@ module _ (P : Program) (plans : Plans) (ok : Accepted P plans) where
 
     sane-advance : (host : Host S) → Lawful host → (x : Status Conf) (s : S) → Sane x → Sane (advance (step P host sizes) x s .machine)
     sane-advance host l (live n c) s h = sane-after n c (step P host sizes c s) h (step-fine P plans ok host l sizes c s h)
-    sane-advance host l (ended n w) s h = tt
+    sane-advance host l (ended n w c) s h = tt
     sane-advance host l (stopped n e c) s h = h
     sane-advance host l (broken n c) s h = h
 
@@ -58,13 +58,13 @@ module _ (P : Program) (plans : Plans) (ok : Accepted P plans) where
     sane-iterate host l (suc k) x s h =
         sane-iterate host l k (advance (step P host sizes) x s .machine) (advance (step P host sizes) x s .host) (sane-advance host l x s h)
 
-    sane-press : (p : Press S) → KeepsLaws p → (x : Status Conf) → Sane x → Sane (press (checkedMachine P sizes) p x)
-    sane-press (run host s k) l x h = sane-iterate host l k x s h
-    sane-press (look j) l x h = h
+    sane-handle : (p : Request S) → KeepsLaws p → (x : Status Conf) → Sane x → Sane (handle (checkedMachine P sizes) p x)
+    sane-handle (run host s k) l x h = sane-iterate host l k x s h
+    sane-handle (look j) l x h = h
 
-    pub sane-presses : (ps : List (Press S)) → AllKeepLaws ps → (x : Status Conf) → Sane x → Sane (presses (checkedMachine P sizes) ps x)
-    sane-presses [] l x h = h
-    sane-presses (p ∷ ps) l x h = sane-presses ps (l .1) (press (checkedMachine P sizes) p x) (sane-press p (l .0) x h)
+    pub sane-handled : (ps : List (Request S)) → AllKeepLaws ps → (x : Status Conf) → Sane x → Sane (handleAll (checkedMachine P sizes) ps x)
+    sane-handled [] l x h = h
+    sane-handled (p ∷ ps) l x h = sane-handled ps (l .1) (handle (checkedMachine P sizes) p x) (sane-handle p (l .0) x h)
 
   -- ## Sound machines are as planned
 
@@ -77,16 +77,17 @@ module _ (P : Program) (plans : Plans) (ok : Accepted P plans) where
 
   pub sane-kept : (x : Status Conf) → Sane x → Kept P plans x
   sane-kept (live n c) h = planned c h
-  sane-kept (ended n w) h = tt
+  sane-kept (ended n w c) h = tt
   sane-kept (stopped n e c) h = planned c h
   sane-kept (broken n c) h = h
 
   pub law-holds : (S : Type 0) (sizes : Sizes) → Law S P plans sizes
   law-holds S sizes =
       record
-        { kept = λ ps l. sane-kept (presses (checkedMachine P sizes) ps (begun S P plans sizes)) (sane-presses sizes ps l (begun S P plans sizes) begins-sound)
+        { kept = λ ps l. sane-kept (handleAll (checkedMachine P sizes) ps (begun S P plans sizes)) (sane-handled sizes ps l (begun S P plans sizes) begins-sound)
         ; adds = λ host a b x s. iterate-add (step P host sizes) a b x s
-        ; ends-alike = λ big le host s ts us n w t h m.
-            twins (step P host sizes) (step P host big) (step-grows P host sizes big le) (ended n w) t tt tt ts us (begins (variablesAt P 0)) s h m
+        ; threads = λ host ts x s. threads (checkedMachine P sizes) host ts x s
+        ; ends-alike = λ big le host s ts us n w c t h m.
+            twins (step P host sizes) (step P host big) (step-grows P host sizes big le) (ended n w c) t tt tt ts us (begins (variablesAt P 0)) s h m
         ; stops-alike = λ big le host s ts us n e c t h l m.
             twins (step P host sizes) (step P host big) (step-grows P host sizes big le) (stopped n e c) t l tt ts us (begins (variablesAt P 0)) s h m }

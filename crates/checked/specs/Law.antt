@@ -1,4 +1,4 @@
--- What an accepted program is owed of the checked machine, over every list of presses.
+-- What an accepted program is owed of the checked machine, over every list of requests.
 use mathlib.Core.Path.{_≡_}
 use mathlib.Core.List.{List, [], _∷_, map}
 use Prim.Native.Nat.{ℕ, _+_, _≤_, _<_}
@@ -12,7 +12,7 @@ use Rattle.host.specs.Hosts.{Host, Lawful}
 use Rattle.plan.specs.Programs.{functionAt, variablesAt, WellFormed}
 use Rattle.plan.specs.Shapes.{Shape}
 use Rattle.plan.specs.Plans.{Plan, Fullest}
-use Rattle.checked.specs.Runs.{Status, live, ended, stopped, broken, Served, served, iterate, Press, run, look, presses, Turn, allowance, serve, Lasting}
+use Rattle.checked.specs.Runs.{Status, live, ended, stopped, broken, Served, served, iterate, Request, run, look, handleAll, Turn, allowance, serve, threaded, Lasting}
 use Rattle.checked.specs.Machine.{Value, kindOf, Frame, frame, Conf, conf, Sizes, step, begins, checkedMachine}
 
 -- ## Accepted programs, and where they may be started
@@ -28,11 +28,6 @@ pub record Accepted (P : Program) (plans : Plans) : Type 0 where
   pub plain : functionAt P 0 .signature .arguments ≡ []
   pub word : functionAt P 0 .signature .result ≡ Word
   pub fullest : (f : ℕ) → f < length (P .functions) → Fullest P f (plans f)
-
--- sizes at which a program may be started: a frame, and what main reserves
-pub record Enough (P : Program) (sizes : Sizes) : Type 0 where
-  pub frames : 1 ≤ sizes .frames
-  pub slots : variablesAt P 0 + 32 ≤ sizes .slots
 
 -- no less memory of any sort
 pub record NoLess (sizes more : Sizes) : Type 0 where
@@ -59,18 +54,18 @@ Planned P plans (conf (frame f p vs st) rest h) = Shows plans f p (map kindOf st
 -- a machine that has frames is as planned, and none is broken
 abbrev pub Kept : Program → Plans → Status Conf → Type 0
 Kept P plans (live n c) = Planned P plans c
-Kept P plans (ended n w) = Unit {0}
+Kept P plans (ended n w c) = Unit {0}
 Kept P plans (stopped n e c) = Planned P plans c
 Kept P plans (broken n c) = ⊥
 
 -- ## The law
 
--- every host that a press brings keeps the laws of a host
-abbrev pub KeepsLaws : {S : Type 0} → Press S → Type 0
+-- every host that a request brings keeps the laws of a host
+abbrev pub KeepsLaws : {S : Type 0} → Request S → Type 0
 KeepsLaws (run host s k) = Lawful host
 KeepsLaws (look j) = Unit {0}
 
-abbrev pub AllKeepLaws : {S : Type 0} → List (Press S) → Type 0
+abbrev pub AllKeepLaws : {S : Type 0} → List (Request S) → Type 0
 AllKeepLaws [] = Unit {0}
 AllKeepLaws (p ∷ ps) = KeepsLaws p × AllKeepLaws ps
 
@@ -79,18 +74,21 @@ module _ (S : Type 0) (P : Program) (plans : Plans) (sizes : Sizes) where
   abbrev pub begun : Status Conf
   begun = live 0 (begins (variablesAt P 0))
 
-  -- over every list of presses, with hosts of any makes that have their states in S:
+  -- over every list of requests, with hosts of any makes that have their states in S:
   pub record Law : Type 0 where
-    -- at the start and after every press the machine is not broken, and its stacks are as the fullest plans say
-    pub kept : (ps : List (Press S)) → AllKeepLaws ps → Kept P plans (presses (checkedMachine P sizes) ps begun)
+    -- at the start and after every request the machine is not broken, and its stacks are as the fullest plans say
+    pub kept : (ps : List (Request S)) → AllKeepLaws ps → Kept P plans (handleAll (checkedMachine P sizes) ps begun)
     -- a run of a steps and then one of b is a run of a + b steps
     pub adds : (host : Host S) (a b : ℕ) (x : Status Conf) (s : S) → iterate (step P host sizes) (a + b) x s
       ≡ iterate (step P host sizes) b (iterate (step P host sizes) a x s .machine) (iterate (step P host sizes) a x s .host)
+    -- turns with one host are requests, each with the host as the one before it left it
+    pub threads : (host : Host S) (ts : List Turn) (x : Status Conf) (s : S)
+      → handleAll (checkedMachine P sizes) (threaded (checkedMachine P sizes) host ts x s) x ≡ serve (step P host sizes) ts x s .machine
     -- one host serves all runs up to an end, its twin those of a twin machine with no less memory, whatever its turns:
-    -- once their allowances add up to the steps that the first made, it has come to the same end, with the host alike
-    pub ends-alike : (more : Sizes) → NoLess sizes more → (host : Host S) (s : S) (ts us : List Turn) (n w : ℕ) (t : S)
-      → serve (step P host sizes) ts begun s ≡ served (ended n w) t → n ≤ allowance us
-      → serve (step P host more) us begun s ≡ served (ended n w) t
+    -- once their allowances add up to at least the steps that the first made, it has come to the same end, with the host alike
+    pub ends-alike : (more : Sizes) → NoLess sizes more → (host : Host S) (s : S) (ts us : List Turn) (n w : ℕ) (c : Conf) (t : S)
+      → serve (step P host sizes) ts begun s ≡ served (ended n w c) t → n ≤ allowance us
+      → serve (step P host more) us begun s ≡ served (ended n w c) t
     -- the same for a stop other than cells and calls, which stands at the same function and place
     pub stops-alike : (more : Sizes) → NoLess sizes more → (host : Host S) (s : S) (ts us : List Turn) (n : ℕ) (e : Stop) (c : Conf) (t : S)
       → serve (step P host sizes) ts begun s ≡ served (stopped n e c) t → Lasting e → n ≤ allowance us

@@ -17,10 +17,11 @@ pub data Next (C S : Type 0) : Type 0 where
   stops : Stop → S → Next C S
   breaks : S → Next C S
 
--- a machine between steps, with the steps that it has made
+-- A machine between steps, with the steps that it has made. An ended machine has main's word, and the configuration from which main
+-- returned: its frames are gone, its memory is left
 pub data Status (C : Type 0) : Type 0 where
   live : ℕ → C → Status C
-  ended : ℕ → ℕ → Status C
+  ended : ℕ → ℕ → C → Status C
   stopped : ℕ → Stop → C → Status C
   broken : ℕ → C → Status C
 
@@ -35,7 +36,7 @@ served x s = record { machine = x; host = s }
 module _ {C S : Type 0} where
   abbrev pub after : ℕ → C → Next C S → Served C S
   after n c (goes d s) = served (live (suc n) d) s
-  after n c (ends w s) = served (ended (suc n) w) s
+  after n c (ends w s) = served (ended (suc n) w c) s
   after n c (stops e s) = served (stopped (suc n) e c) s
   after n c (breaks s) = served (broken (suc n) c) s
 
@@ -43,7 +44,7 @@ module _ {C S : Type 0} where
     -- a machine that is over makes no step
     abbrev pub advance : Status C → S → Served C S
     advance (live n c) s = after n c (step c s)
-    advance (ended n w) s = served (ended n w) s
+    advance (ended n w c) s = served (ended n w c) s
     advance (stopped n e c) s = served (stopped n e c) s
     advance (broken n c) s = served (broken n c) s
 
@@ -52,12 +53,12 @@ module _ {C S : Type 0} where
     iterate zero x s = served x s
     iterate (suc k) x s = iterate k (advance x s .machine) (advance x s .host)
 
--- ## Presses and what they answer
+-- ## Requests and what they answer
 
 -- a run brings a host (its make and its state) and an allowance of steps; a look asks for a frame, the newest being 0
-pub data Press (S : Type 0) : Type 0 where
-  run : Host S → S → ℕ → Press S
-  look : ℕ → Press S
+pub data Request (S : Type 0) : Type 0 where
+  run : Host S → S → ℕ → Request S
+  look : ℕ → Request S
 
 -- what a frame shows: function, place and depth of its stack
 pub record View : Type 0 where
@@ -76,13 +77,23 @@ pub data Answer : Type 0 where
   sees : View → Answer
   unseen : Answer
 
+-- the number and the place of each refusal
+abbrev pub refusal : Answer → Option (ℕ × ℕ × ℕ)
+refusal (continues n) = None
+refusal (ends w n) = None
+refusal (stops e f p n) = None
+refusal (breaks n) = None
+refusal over = Some (32, 0, 0)
+refusal (sees v) = None
+refusal unseen = Some (33, 0, 0)
+
 -- an answer, and the state of the host that a run brought, after it
-pub record Heard (S : Type 0) : Type 0 where
+pub record Response (S : Type 0) : Type 0 where
   pub answer : Answer
   pub host : Option S
 
-abbrev pub heard : {S : Type 0} → Answer → S → Heard S
-heard a s = record { answer = a; host = Some s }
+abbrev pub response : {S : Type 0} → Answer → S → Response S
+response a s = record { answer = a; host = Some s }
 
 abbrev pub shown : Option View → Answer
 shown None = unseen
@@ -98,39 +109,39 @@ module _ {C S : Type 0} (M : Machine C S) where
   -- what a run answers that began after n steps and left this machine
   abbrev pub tells : ℕ → Status C → Answer
   tells n (live m c) = continues (m - n)
-  tells n (ended m w) = ends w (m - n)
+  tells n (ended m w c) = ends w (m - n)
   tells n (stopped m e c) = stops e (M .newest c .function) (M .newest c .place) (m - n)
   tells n (broken m c) = breaks (m - n)
 
-  abbrev pub press : Press S → Status C → Status C
-  press (run host s k) x = iterate (M .step host) k x s .machine
-  press (look j) x = x
+  abbrev pub handle : Request S → Status C → Status C
+  handle (run host s k) x = iterate (M .step host) k x s .machine
+  handle (look j) x = x
 
-  abbrev pub ran : Host S → S → ℕ → Status C → Heard S
-  ran host s k (live n c) = heard (tells n (iterate (M .step host) k (live n c) s .machine)) (iterate (M .step host) k (live n c) s .host)
-  ran host s k (ended n w) = heard over s
-  ran host s k (stopped n e c) = heard over s
-  ran host s k (broken n c) = heard over s
+  abbrev pub ran : Host S → S → ℕ → Status C → Response S
+  ran host s k (live n c) = response (tells n (iterate (M .step host) k (live n c) s .machine)) (iterate (M .step host) k (live n c) s .host)
+  ran host s k (ended n w c) = response over s
+  ran host s k (stopped n e c) = response over s
+  ran host s k (broken n c) = response over s
 
   -- an ended machine has no frames
   abbrev pub looked : ℕ → Status C → Answer
   looked j (live n c) = shown (M .frame c j)
-  looked j (ended n w) = unseen
+  looked j (ended n w c) = unseen
   looked j (stopped n e c) = shown (M .frame c j)
   looked j (broken n c) = shown (M .frame c j)
 
-  abbrev pub hear : Press S → Status C → Heard S
-  hear (run host s k) x = ran host s k x
-  hear (look j) x = record { answer = looked j x; host = None }
+  abbrev pub respond : Request S → Status C → Response S
+  respond (run host s k) x = ran host s k x
+  respond (look j) x = record { answer = looked j x; host = None }
 
-  -- each press begins with the machine that its predecessor left
-  abbrev pub presses : List (Press S) → Status C → Status C
-  presses [] x = x
-  presses (p ∷ ps) x = presses ps (press p x)
+  -- each request begins with the machine that its predecessor left
+  abbrev pub handleAll : List (Request S) → Status C → Status C
+  handleAll [] x = x
+  handleAll (p ∷ ps) x = handleAll ps (handle p x)
 
-  abbrev pub hears : List (Press S) → Status C → List (Heard S)
-  hears [] x = []
-  hears (p ∷ ps) x = hear p x ∷ hears ps (press p x)
+  abbrev pub responses : List (Request S) → Status C → List (Response S)
+  responses [] x = []
+  responses (p ∷ ps) x = respond p x ∷ responses ps (handle p x)
 
 -- ## One host for all runs
 
@@ -152,7 +163,14 @@ module _ {C S : Type 0} (step : C → S → Next C S) where
   serve (run k ∷ ts) x s = serve ts (iterate step k x s .machine) (iterate step k x s .host)
   serve (look j ∷ ts) x s = serve ts x s
 
--- ## Ends that more memory does not change
+-- the same as requests, each with the host as the one before it left it
+abbrev pub threaded : {C S : Type 0} → Machine C S → Host S → List Turn → Status C → S → List (Request S)
+threaded M host [] x s = []
+threaded M host (run k ∷ ts) x s =
+    Request.run host s k ∷ threaded M host ts (iterate (M .step host) k x s .machine) (iterate (M .step host) k x s .host)
+threaded M host (look j ∷ ts) x s = Request.look j ∷ threaded M host ts x s
+
+-- ## Stops that more memory does not change
 
 abbrev pub Lasting : Stop → Type 0
 Lasting Divide = Unit {0}
@@ -167,8 +185,3 @@ Lasting Cells = ⊥
 Lasting Calls = ⊥
 Lasting (ByHost fault) = Unit {0}
 Lasting Native = Unit {0}
-
--- an end, or a stop other than cells and calls: what can be told of it
-pub data End : Type 0 where
-  ended : ℕ → End
-  stopped : Stop → ℕ → ℕ → End

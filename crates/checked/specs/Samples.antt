@@ -17,7 +17,7 @@ use Rattle.plan.specs.Shapes.{changed, merge}
 use Rattle.plan.specs.Sweep.{off, judge}
 use Rattle.plan.specs.Samples.{giving, mainOf, shaped, stacked}
 use Rattle.word.specs.Words.{wrap}
-use Rattle.checked.specs.Runs.{Status, live, ended, Answer, continues, ends, stops, Heard, hear, run}
+use Rattle.checked.specs.Runs.{Status, live, ended, Answer, continues, ends, stops, Response, respond, run}
 use Rattle.checked.specs.Machine.{Sizes, begins, checkedMachine}
 
 -- a host without natives
@@ -27,7 +27,7 @@ noHost = record { signs = λ i. None; replies = λ s c. stopWith 0; becomes = λ
 -- what a run of so many steps answers, with a frame of 32 slots, so many cells, and one block record
 abbrev pub answerOf : Program → ℕ → ℕ → Answer
 answerOf P cells allowance =
-    hear (checkedMachine P (record { slots = 32; frames = 1; cells = cells; records = 1 })) (run noHost tt allowance) (live 0 (begins 0)) .answer
+    respond (checkedMachine P (record { slots = 32; frames = 1; cells = cells; records = 1 })) (run noHost tt allowance) (live 0 (begins 0)) .answer
 
 -- a program without functions but main, with one integer
 abbrev pub withInteger : ℕ → List ℕ → Program

@@ -6,7 +6,7 @@ ghost use Rattle.checked.specs.Machine.{Sizes};
 ghost use Rattle.checked.specs.Law.{Plans, Accepted, Law};
 ghost use Rattle.checked.specs.Samples.{Samples};
 
-/// The law over every list of presses, for hosts of any makes that have their states in `S`.
+/// The law over every list of requests, for hosts of any makes that have their states in `S`.
 pub fn law_holds<S>() -> u8
     ensures { λ _. ⌜ ((P : Program) (plans : Plans) → Accepted P plans → (sizes : Sizes) → Law S P plans sizes) ⌝ }
 {

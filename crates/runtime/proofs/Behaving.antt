@@ -94,7 +94,7 @@ module _ {S : Type 0} (host : Host S) (s : S) where
 
     advance-seen : (x : Status State) (past : List Call) → seenRun (advance (step P (behaviour host s)) x past) ≡ advance (step P host) x (reached host s past)
     advance-seen (live n l) past = after-seen n l (step P (behaviour host s) l past) ∙ ap (after n l) (fetched-seen past l (nth (P .functions) (l .function)))
-    advance-seen (ended n w) past = refl
+    advance-seen (ended n w c) past = refl
     advance-seen (stopped n e l) past = refl
     advance-seen (broken n l) past = refl
 

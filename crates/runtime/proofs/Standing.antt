@@ -12,13 +12,14 @@ use Rattle.bytecode.specs.Program.{Program}
 use Rattle.heap.proofs.Standing.{stands}
 use Rattle.host.specs.Hosts.{Host, Lawful}
 use Rattle.plan.specs.Programs.{nth, functionAt, variablesAt, noFunction}
-use Rattle.checked.specs.Runs.{Next, goes, ends, stops, breaks, Status, live, ended, stopped, broken, served, Press, presses, hears, Turn, allowance, serve, Lasting}
+use Rattle.checked.specs.Runs.{Next, goes, ends, stops, breaks, Status, live, ended, stopped, broken, served, Request, handleAll, responses, Turn, allowance, serve, Lasting}
 use Rattle.checked.specs.Machine.{Value, Frame, frame, Conf, conf, Sizes, reserve, checkedMachine}
 use Rattle.checked.specs.Machine as checked
 use Rattle.checked.specs.Law.{Plans, Accepted, NoLess, Kept, AllKeepLaws}
 use Rattle.checked.specs.Sound.{Sound}
 use Rattle.checked.proofs.Pieces.{nth-some, nth-getD}
 use Rattle.checked.proofs.Sounding.{Fine, step-fine}
+use Rattle.checked.proofs.Running.{threads}
 use Rattle.checked.proofs.Standing.{begins-sound, law-holds}
 use Rattle.runtime.specs.Runtime.{State, begins, runtimeMachine}
 use Rattle.runtime.specs.Runtime as running
@@ -26,7 +27,7 @@ use Rattle.runtime.specs.Relation.{Small, Holds, flat, Lays, Represents, Repre
 use Rattle.runtime.specs.Law.{Unused, Memory, sizesOf, Enough, begun, checkedBegun, SameCells, Law}
 use Rattle.runtime.proofs.Laying.{lays-unset}
 use Rattle.runtime.proofs.Stepping.{step-same}
-use Rattle.runtime.proofs.Following.{Both, serve-both, presses-alike, hears-same, ended-both, both-ended, stopped-both, both-stopped}
+use Rattle.runtime.proofs.Following.{Both, serve-both, handled-alike, responses-same, ended-both, both-ended, stopped-both, both-stopped, alike-weaker}
 use Rattle.runtime.proofs.Looking.{newest-same, frame-same}
 
 module _ (P : Program) (plans : Plans) (ok : Accepted P plans) (small : Small P) where
@@ -77,16 +78,8 @@ module _ (P : Program) (plans : Plans) (ok : Accepted P plans) (small : Small P)
 
   -- ## The law
 
-  same-cells : (sizes : Sizes) {x : Status Conf} {y : Status State} → Alike (Paired sizes) x y → SameCells sizes x y
-  same-cells sizes (lives {n = n} {c = c} {d = l} r) = there c l r
-    where
-      there : (c : Conf) (l : State) → Paired sizes c l → SameCells sizes (live n c) (live n l)
-      there (conf (frame f p vs st) rest h) l r = r .1 .heap
-  same-cells sizes done = tt
-  same-cells sizes (halts {n = n} {e = e} {c = c} {d = l} r) = there c l r
-    where
-      there : (c : Conf) (l : State) → Paired sizes c l → SameCells sizes (stopped n e c) (stopped n e l)
-      there (conf (frame f p vs st) rest h) l r = r .1 .heap
+  same-cells : (sizes : Sizes) (c : Conf) (l : State) → Paired sizes c l → SameCells sizes c l
+  same-cells sizes (conf (frame f p vs st) rest h) l r = r .1 .heap
 
   enough-more : (m twin : Memory) → NoLess (sizesOf m) (sizesOf twin) → Enough P m → Enough P twin
   enough-more m twin le e =
@@ -107,12 +100,16 @@ module _ (P : Program) (plans : Plans) (ok : Accepted P plans) (small : Small P)
     pub law-stands : Law S P plans m
     law-stands =
         record
-          { answers = λ ps l. sym (hears-same (Paired sizes) (checkedMachine P sizes) (runtimeMachine P) sim newests frames ps l (checkedBegun P) (begun P m) (start m enough))
-          ; cells = λ ps l. same-cells sizes (presses-alike (Paired sizes) (checkedMachine P sizes) (runtimeMachine P) sim newests frames ps l (checkedBegun P) (begun P m) (start m enough))
+          { answers = λ ps l. sym (responses-same (Paired sizes) (checkedMachine P sizes) (runtimeMachine P) sim newests frames ps l (checkedBegun P) (begun P m) (start m enough))
+          ; cells = λ ps l. alike-weaker (Paired sizes) (SameCells sizes) (same-cells sizes) (alike ps l)
+          ; slots = λ ps l. alike-weaker (Paired sizes) (Represented P sizes) (λ c d r. r .1) (alike ps l)
           ; kept = λ ps l. law-holds P plans ok S sizes .kept ps l
-          ; ends-alike = λ twin le host lawful s ts us n w t e le′.
-              both-ended (Paired (sizesOf twin)) (served-both twin (enough-more m twin le enough) host lawful us s) n w t
-                (law-holds P plans ok S sizes .ends-alike (sizesOf twin) le host s ts us n w t (ended-both (Paired sizes) (served-both m enough host lawful ts s) n w t e) le′)
+          ; threads = λ host ts x s. threads (runtimeMachine P) host ts x s
+          ; ends-alike = λ twin le host lawful s ts us n w l t q le′.
+              let a = ended-both (Paired sizes) (served-both m enough host lawful ts s) n w l t q in
+              let b = both-ended (Paired (sizesOf twin)) (served-both twin (enough-more m twin le enough) host lawful us s) n w (a .0) t
+                (law-holds P plans ok S sizes .ends-alike (sizesOf twin) le host s ts us n w (a .0) t (a .1) le′) in
+              (b .0, b .1)
           ; stops-alike = λ twin le host lawful s ts us n e l t q lasting le′.
               let a = stopped-both (Paired sizes) (served-both m enough host lawful ts s) n e l t q in
               let b = both-stopped (Paired (sizesOf twin)) (served-both twin (enough-more m twin le enough) host lawful us s) n e (a .0) t
@@ -128,3 +125,5 @@ module _ (P : Program) (plans : Plans) (ok : Accepted P plans) (small : Small P)
         newests c l r = newest-same P plans ok sizes c l (r .0) (r .1)
         frames : (c : Conf) (l : State) → Paired sizes c l → (j : ℕ) → checked.frameAt c j ≡ running.frameAt P l j
         frames c l r j = frame-same P plans ok sizes c l (r .0) (r .1) j
+        alike : (ps : List (Request S)) → AllKeepLaws ps → Alike (Paired sizes) (handleAll (checkedMachine P sizes) ps (checkedBegun P)) (handleAll (runtimeMachine P) ps (begun P m))
+        alike ps l = handled-alike (Paired sizes) (checkedMachine P sizes) (runtimeMachine P) sim newests frames ps l (checkedBegun P) (begun P m) (start m enough)

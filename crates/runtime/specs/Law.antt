@@ -1,4 +1,4 @@
--- What a started machine is owed, over every list of presses: it gives the checked machine's answers and host calls, holds what
+-- What a started machine is owed, over every list of requests: it gives the checked machine's answers and host calls, holds what
 -- the checked machine holds, never breaks, and its stacks are as the fullest plans say; and a twin with no less memory comes to
 -- the same end.
 use mathlib.Core.Path.{_≡_}
@@ -11,12 +11,13 @@ use Rattle.heap.specs.Storage.{Storage}
 use Rattle.heap.specs.Relation.{Match}
 use Rattle.host.specs.Hosts.{Host, Lawful}
 use Rattle.plan.specs.Programs.{variablesAt}
-use Rattle.checked.specs.Runs.{Status, live, ended, stopped, broken, served, Press, presses, hears, Turn, allowance, serve, Lasting}
+use Rattle.checked.specs.Runs.{Status, live, ended, stopped, broken, served, Request, handleAll, responses, Turn, allowance, serve, threaded, Lasting}
 use Rattle.checked.specs.Machine.{Conf, conf, Sizes, checkedMachine}
 use Rattle.checked.specs.Machine as checked
 use Rattle.checked.specs.Law.{Plans, NoLess, Kept, AllKeepLaws}
 use Rattle.runtime.specs.declared.FrameRecord.{FrameRecord}
 use Rattle.runtime.specs.Runtime.{State, step, begins, runtimeMachine}
+use Rattle.runtime.specs.Relation.{Represented, Alike}
 
 -- ## Memory as it is lent
 
@@ -52,39 +53,33 @@ checkedBegun P = live 0 (checked.begins (variablesAt P 0))
 -- ## The law
 
 -- the lent cells hold what the checked machine's blocks hold
-abbrev pub SameCells : Sizes → Status Conf → Status State → Type 0
-SameCells sizes (live n (conf f fs h)) (live m l) = Match (sizes .cells) (sizes .records) h (l .storage)
-SameCells sizes (stopped n e (conf f fs h)) (stopped m k l) = Match (sizes .cells) (sizes .records) h (l .storage)
-SameCells sizes (ended n w) (ended m v) = Unit {0}
-SameCells sizes (live n c) (ended m v) = ⊥
-SameCells sizes (live n c) (stopped m k l) = ⊥
-SameCells sizes (live n c) (broken m l) = ⊥
-SameCells sizes (ended n w) (live m l) = ⊥
-SameCells sizes (ended n w) (stopped m k l) = ⊥
-SameCells sizes (ended n w) (broken m l) = ⊥
-SameCells sizes (stopped n e c) (live m l) = ⊥
-SameCells sizes (stopped n e c) (ended m v) = ⊥
-SameCells sizes (stopped n e c) (broken m l) = ⊥
-SameCells sizes (broken n c) y = ⊥
+abbrev pub SameCells : Sizes → Conf → State → Type 0
+SameCells sizes (conf f fs h) l = Match (sizes .cells) (sizes .records) h (l .storage)
 
 -- hosts of any makes that have their states in S
 module _ (S : Type 0) (P : Program) (plans : Plans) (memory : Memory) where
   pub record Law : Type 0 where
-    -- the checked machine, given the same start, presses and hosts, gives the same answers, refusals included, and leaves every
+    -- the checked machine, given the same start, requests and hosts, gives the same answers, refusals included, and leaves every
     -- host in the same state
-    pub answers : (ps : List (Press S)) → AllKeepLaws ps
-      → hears (runtimeMachine P) ps (begun P memory) ≡ hears (checkedMachine P (sizesOf memory)) ps (checkedBegun P)
-    pub cells : (ps : List (Press S)) → AllKeepLaws ps
-      → SameCells (sizesOf memory) (presses (checkedMachine P (sizesOf memory)) ps (checkedBegun P)) (presses (runtimeMachine P) ps (begun P memory))
-    -- at the start and after every press it is not broken, the newest frame's stack has the depth and the kinds of the fullest plan
+    pub answers : (ps : List (Request S)) → AllKeepLaws ps
+      → responses (runtimeMachine P) ps (begun P memory) ≡ responses (checkedMachine P (sizesOf memory)) ps (checkedBegun P)
+    pub cells : (ps : List (Request S)) → AllKeepLaws ps
+      → Alike (SameCells (sizesOf memory)) (handleAll (checkedMachine P (sizesOf memory)) ps (checkedBegun P)) (handleAll (runtimeMachine P) ps (begun P memory))
+    -- both go on, have ended or have stopped alike, and the slots of every frame stand for the values of the checked machine's
+    pub slots : (ps : List (Request S)) → AllKeepLaws ps
+      → Alike (Represented P (sizesOf memory)) (handleAll (checkedMachine P (sizesOf memory)) ps (checkedBegun P)) (handleAll (runtimeMachine P) ps (begun P memory))
+    -- at the start and after every request it is not broken, the newest frame's stack has the depth and the kinds of the fullest plan
     -- at its place, and each older one's lacks only the awaited result
-    pub kept : (ps : List (Press S)) → AllKeepLaws ps → Kept P plans (presses (checkedMachine P (sizesOf memory)) ps (checkedBegun P))
+    pub kept : (ps : List (Request S)) → AllKeepLaws ps → Kept P plans (handleAll (checkedMachine P (sizesOf memory)) ps (checkedBegun P))
+    -- turns with one host are requests, each with the host as the one before it left it
+    pub threads : (host : Host S) (ts : List Turn) (x : Status State) (s : S)
+      → handleAll (runtimeMachine P) (threaded (runtimeMachine P) host ts x s) x ≡ serve (step P host) ts x s .machine
     -- One host, changed by nothing but these runs, serves them all up to an end; its twin serves those of a twin machine, whatever
-    -- its turns. Once the twin's allowances add up to the steps that the first made, it has come to the same end: word, steps and
+    -- its turns. Once the twin's allowances add up to at least the steps that the first made, it has come to the same end: word, steps and
     -- host alike
-    pub ends-alike : (twin : Memory) → NoLess (sizesOf memory) (sizesOf twin) → (host : Host S) → Lawful host → (s : S) (ts us : List Turn) (n w : ℕ) (t : S)
-      → serve (step P host) ts (begun P memory) s ≡ served (ended n w) t → n ≤ allowance us
-      → serve (step P host) us (begun P twin) s ≡ served (ended n w) t
+    pub ends-alike : (twin : Memory) → NoLess (sizesOf memory) (sizesOf twin) → (host : Host S) → Lawful host → (s : S) (ts us : List Turn) (n w : ℕ) (l : State) (t : S)
+      → serve (step P host) ts (begun P memory) s ≡ served (ended n w l) t → n ≤ allowance us
+      → (k : State) × (serve (step P host) us (begun P twin) s ≡ served (ended n w k) t)
     -- the same up to a stop other than cells and calls: stop, function, place, steps and host alike
     pub stops-alike : (twin : Memory) → NoLess (sizesOf memory) (sizesOf twin) → (host : Host S) → Lawful host → (s : S) (ts us : List Turn) (n : ℕ) (e : Stop) (l : State) (t : S)
       → serve (step P host) ts (begun P memory) s ≡ served (stopped n e l) t → Lasting e → n ≤ allowance us

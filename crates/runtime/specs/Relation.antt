@@ -88,8 +88,8 @@ pub data Same {C D S : Type 0} (R : C → D → Type 0) : Next C S → Next D S 
   end : {w : ℕ} {s : S} → Same R (ends w s) (ends w s)
   stop : {e : Stop} {s : S} → Same R (stops e s) (stops e s)
 
--- machines between presses that are the same: both go on, both have ended, or both stopped; none is broken
+-- machines between requests that are the same: both go on, both have ended, or both stopped; none is broken
 pub data Alike {C D : Type 0} (R : C → D → Type 0) : Status C → Status D → Type 0 where
   lives : {n : ℕ} {c : C} {d : D} → R c d → Alike R (live n c) (live n d)
-  done : {n w : ℕ} → Alike R (ended n w) (ended n w)
+  done : {n w : ℕ} {c : C} {d : D} → R c d → Alike R (ended n w c) (ended n w d)
   halts : {n : ℕ} {e : Stop} {c : C} {d : D} → R c d → Alike R (stopped n e c) (stopped n e d)

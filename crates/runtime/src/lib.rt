@@ -14,7 +14,7 @@ pub struct FrameRecord {
     pub base: usize,
 }
 
-/// What a started machine is owed over every list of presses, for hosts of any makes that have their states in `S`.
+/// What a started machine is owed over every list of requests, for hosts of any makes that have their states in `S`.
 pub fn law_stands<S>() -> u8
     ensures { λ _. ⌜ ((P : Program) (plans : Plans) → Accepted P plans → Small P → (m : Memory) → Enough P m → Law S P plans m) ⌝ }
 {
