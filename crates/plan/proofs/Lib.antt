@@ -1,0 +1,11 @@
+pub mod Outcomes
+pub mod Indexing
+pub mod Reaching
+pub mod Acting
+pub mod Applying
+pub mod Weighing
+pub mod Starting
+pub mod Sweeping
+pub mod Placing
+pub mod Judging
+pub mod Following

@@ -115,12 +115,16 @@ unfoldable pub run : Program → ℕ → ℕ → ℕ → Table → Answer
 run P f zero t T = good (T, t)
 run P f (suc k) t T = turn P f t T (run P f k (suc t)) (at T (lowest T))
 
--- a function of S starts and V variables has at most S × (V + 1) takes, so the sweep never runs out of them
+-- a function of S starts and V variables has at most S × (V + 1) takes; more would change nothing
 abbrev pub most : Program → ℕ → List Bool → ℕ
 most P f marks = countTrue marks * (variablesAt P f + 1)
 
-unfoldable pub sweepMarks : Program → ℕ → List Bool → Answer
-sweepMarks P f marks = bind (put f 0 (map fresh marks) (Some 0) (entryOf (functionAt P f))) (run P f (most P f marks) 0)
+-- place 0 is given the entry shape and marked; then at most k takes
+unfoldable pub sweepWithin : Program → ℕ → ℕ → List Bool → Answer
+sweepWithin P f k marks = bind (put f 0 (map fresh marks) (Some 0) (entryOf (functionAt P f))) (run P f k 0)
+
+abbrev pub sweepMarks : Program → ℕ → List Bool → Answer
+sweepMarks P f marks = sweepWithin P f (most P f marks) marks
 
 unfoldable pub sweepFunction : Program → ℕ → Answer
 sweepFunction P f = bind (startsOf f (codeAt P f)) (sweepMarks P f)
