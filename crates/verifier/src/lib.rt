@@ -1,0 +1,4 @@
+// The verifier: decodes and sweeps a package's code, and accepts the package or names the first check that it fails.
+mod flow;
+mod starts;
+mod worklist;
