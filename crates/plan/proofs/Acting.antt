@@ -1,9 +1,9 @@
 -- What an instruction does keeps the order of shapes, and their sizes.
-use Prim.Native.Nat.{ℕ, zero, suc, _+_, _≤_, _<_}
-use mathlib.Core.Path.{_≡_, refl, sym, _∙_, ap, subst}
+use Prim.Native.Nat.{ℕ, zero, suc, _≤_}
+use mathlib.Core.Path.{_≡_, refl, _∙_, subst}
 use mathlib.Core.List.{List, [], _∷_, _++_}
 use mathlib.Core.Bool.{Bool, true, false, cond}
-use mathlib.Core.Logic.{_⊎_, inl, inr, _≢_}
+use mathlib.Core.Logic.{inl, inr, _≢_}
 use native.Mathlib.Omega.{arith}
 use lib.Dec.{ltb, leb}
 use lib.ListN.{getD, set, length, take, drop, length-set}
@@ -15,9 +15,9 @@ use Rattle.bytecode.specs.declared.kind.Kind.{Kind}
 use Rattle.bytecode.specs.declared.kind.Kind.the-variants.{Unknown, Word, Reference}
 use Rattle.bytecode.specs.declared.instruction.Instruction.{Instruction}
 use Rattle.bytecode.specs.declared.instruction.Instruction.the-variants.{Nop, Pop, Dup, Swap, AconstNull, Aldc, Bipush, Ildc, Vload, Vstore, Binary, IfCmpeq, IfCmpne, IfIcmp, Goto, Invokestatic, Invokenative, Return, New, Newarray, Arraylength, Aaddf, Aadds, Imload, Cmload, Amload, Imstore, Cmstore, Amstore}
-use Rattle.bytecode.specs.Outcome.{Fault, Out, bad, good, bind}
+use Rattle.bytecode.specs.Outcome.{Fault, Out, bad, good}
 use Rattle.bytecode.specs.Program.{Function, Native, Program}
-use Rattle.plan.specs.Programs.{nth, functionAt, variablesAt, Known, AllKnown, WellFormed}
+use Rattle.plan.specs.Programs.{nth, functionAt, variablesAt, AllKnown, WellFormed}
 use Rattle.plan.specs.Shapes.{Shape, Reach, Alike, Sized, eqKind, eqKinds}
 use Rattle.plan.specs.Effects.{Act, fixed, load, store, pop, dup, swap, alike, give, within, callStatic, callNative, actOf, check, room, replace, popped, doubled, swapped, compared, returned, loaded, stored, keeping, perform, performed, effect}
 use Rattle.plan.proofs.Outcomes.{On}
@@ -138,7 +138,7 @@ module _ (f p : ℕ) where
   filled-replace : (taken left st : List Kind) → AllKnown left → Filled st → FilledOut (replace f p taken left st)
   filled-replace taken left st l h =
       filled-check (leb (length taken) (length st)) (18, f, p)
-        (check (eqKinds (take (length taken) st) taken) (20, f, p) (room f p (left ++ drop (length taken) st)))
+      (check (eqKinds (take (length taken) st) taken) (20, f, p) (room f p (left ++ drop (length taken) st)))
       (filled-check (eqKinds (take (length taken) st) taken) (20, f, p) (room f p (left ++ drop (length taken) st))
       (filled-room (left ++ drop (length taken) st) (known-append left _ l (known-drop (length taken) st (h .1)))))
 
@@ -175,11 +175,12 @@ module _ (f p : ℕ) where
   kept-store V i s st false e h n = tt
   kept-store V i s [] true e h n = tt
   kept-store V i s (k ∷ st) true e h n =
-      record
-        { low = omega (arith, n .0)
-        ; kinds = n .1 .1
-        ; long = length-set (s .variables) i k ∙ h .long
-        ; unused = λ j l. let ne : j ≢ i = omega (arith, ltb-true i V e) in rw getD-set-other (h .unused j l) }
+      record {
+        low = omega (arith, n .0);
+        kinds = n .1 .1;
+        long = length-set (s .variables) i k ∙ h .long;
+        unused = λ j l. let ne : j ≢ i = omega (arith, ltb-true i V e) in rw getD-set-other (h .unused j l);
+      }
 
   kept-load : (V : ℕ) (s : Shape) (r : Out (List Kind)) (b : Bool) → Sized V s → FilledOut r → Kept V (check b (21, f, p) (keeping f p (s .variables) r))
   kept-load V s r false h l = tt

@@ -34,7 +34,7 @@ module _ (P : Program) (f : ℕ) where
   unfolding apply
   passes-on plan p s h =
       let e : applied P f p s (decodeAt (codeAt P f) p) ≡ good (h .result, successors p (h .instruction)) =
-        ap (applied P f p s) (h .decoded) ∙ ap (λ r. bind r (λ u. good (u, successors p (h .instruction)))) (h .passed) in
+      ap (applied P f p s) (h .decoded) ∙ ap (λ r. bind r (λ u. good (u, successors p (h .instruction)))) (h .passed) in
       subst (On ⊥ (LandsIn plan)) (sym e) (h .lands)
 
   pub on-passes : (plan : Plan) (p : ℕ) (s : Shape) → On ⊥ (LandsIn plan) (apply P f p s) → Passes P f plan p s
@@ -42,9 +42,10 @@ module _ (P : Program) (f : ℕ) where
   on-passes plan p s h = go (decodeAt (codeAt P f) p) refl h
     where
       went : (i : Instruction) → decodeAt (codeAt P f) p ≡ Some i → (r : Out Shape) → effect P f p i s ≡ r
-        → On ⊥ (LandsIn plan) (bind r (λ u. good (u, successors p i))) → Passes P f plan p s
+          → On ⊥ (LandsIn plan) (bind r (λ u. good (u, successors p i))) → Passes P f plan p s
       went i d (bad e) g h = absurd h
       went i d (good u) g h = record { instruction = i; decoded = d; result = u; passed = g; lands = h }
+
       go : (o : Option Instruction) → decodeAt (codeAt P f) p ≡ o → On ⊥ (LandsIn plan) (applied P f p s o) → Passes P f plan p s
       go None d h = absurd h
       go (Some i) d h = went i d (effect P f p i s) refl h

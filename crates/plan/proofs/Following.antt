@@ -1,5 +1,5 @@
 -- What a good plan says of one step: the instruction at a shaped place, what it finds and leaves, and the shapes after it.
-use Prim.Native.Nat.{ℕ, zero, suc, _+_, _<_, _≤_}
+use Prim.Native.Nat.{ℕ, _+_, _<_, _≤_}
 use mathlib.Core.Path.{_≡_, refl, sym, ap, _∙_, subst}
 use mathlib.Core.List.{List, [], _∷_, _++_}
 use mathlib.Core.Bool.{Bool, true, false, cond, true≢false}
@@ -18,12 +18,11 @@ use Rattle.bytecode.specs.Program.{Program}
 use Rattle.plan.specs.Programs.{functionAt, codeAt, variablesAt, Known, WellFormed}
 use Rattle.plan.specs.Shapes.{Shape, Reach, eqKind, eqKinds}
 use Rattle.plan.specs.Effects.{Act, fixed, load, store, pop, dup, swap, alike, give, actOf, check, room, replace, popped, doubled, swapped, compared, returned, loaded, stored, keeping, perform, performed, effect}
-use Rattle.plan.specs.Plans.{Plan, marksIn, startsAt, Hits, entryOf, Passes, Good, Fullest}
+use Rattle.plan.specs.Plans.{Plan, marksIn, startsAt, Hits, entryOf, Good, Fullest}
 use Rattle.plan.specs.Sweep.{Table, planOf, judge}
-use Rattle.plan.specs.Judgement.{Accepted, Says, Judged}
+use Rattle.plan.specs.Judgement.{Accepted, Says}
 use Rattle.plan.proofs.Outcomes.{On, on-good}
 use Rattle.plan.proofs.Reaching.{eqKind-is, eqKinds-is}
-use Rattle.plan.proofs.Starting.{starts-marked}
 use Rattle.plan.proofs.Judging.{judged}
 
 -- ## What an act finds and leaves
@@ -63,10 +62,10 @@ module _ (f p : ℕ) where
   leads-fixed taken left st =
       on-check (leb (length taken) (length st)) (18, f, p) Q (check (eqKinds (take (length taken) st) taken) (20, f, p) (room f p (left ++ drop (length taken) st)))
       (λ a. on-check (eqKinds (take (length taken) st) taken) (20, f, p) Q (room f p (left ++ drop (length taken) st))
-        (λ b. on-room (left ++ drop (length taken) st) Q
-          (λ l.
-            let e : take (length taken) st ≡ taken = eqKinds-is _ _ b in
-            (drop (length taken) st, sym (take-append-drop (length taken) st) ∙ ap (λ ks. ks ++ drop (length taken) st) e, refl, l))))
+      (λ b. on-room (left ++ drop (length taken) st) Q
+      (λ l.
+      let e : take (length taken) st ≡ taken = eqKinds-is _ _ b in
+      (drop (length taken) st, sym (take-append-drop (length taken) st) ∙ ap (λ ks. ks ++ drop (length taken) st) e, refl, l))))
     where
       Q : List Kind → Type 0
       Q w = (rest : List Kind) × (st ≡ taken ++ rest) × (w ≡ left ++ rest) × (length (left ++ rest) ≤ 32)
@@ -87,7 +86,7 @@ module _ (f p : ℕ) where
   performs V (load i) s =
       on-check (ltb i V) (21, f, p) (Leads V (load i) s) (keeping f p (s .variables) (loaded f p (getD (s .variables) i Unknown) (s .stack)))
       (λ l. on-keeping (s .variables) _ (Leads V (load i) s) (loaded f p (getD (s .variables) i Unknown) (s .stack))
-        (λ st h. (ltb-true _ _ l, h .0, shape-with (s .variables) _ _ (h .1), h .2)) (leads-load (getD (s .variables) i Unknown) (s .stack)))
+      (λ st h. (ltb-true _ _ l, h .0, shape-with (s .variables) _ _ (h .1), h .2)) (leads-load (getD (s .variables) i Unknown) (s .stack)))
   performs V (store i) s =
       on-check (ltb i V) (21, f, p) (Leads V (store i) s) (stored f p i (s .variables) (s .stack)) (λ l. go (s .stack) refl (ltb-true _ _ l))
     where
@@ -141,7 +140,7 @@ pub effect-leads : (P : Program) (f p : ℕ) (i : Instruction) (s u : Shape) →
 effect-leads P f p i s u e = go (actOf P (functionAt P f) i) refl e
   where
     go : (o : Option Act) → actOf P (functionAt P f) i ≡ o → performed f p (variablesAt P f) s o ≡ good u
-      → (a : Act) × (actOf P (functionAt P f) i ≡ Some a) × Leads (variablesAt P f) a s u
+        → (a : Act) × (actOf P (functionAt P f) i ≡ Some a) × Leads (variablesAt P f) a s u
     go None d h = absurd (true≢false (cc))
     go (Some a) d h = (a, d, perform-leads f p (variablesAt P f) a s u h)
 
@@ -180,6 +179,7 @@ decoded-inside code p i e = go (instructionOf (byteAt code p) (byteAt code (p + 
     fits : (j : Instruction) (b : Bool) → leb (p + sizeOf j) (length code) ≡ b → cond b (Some j) None ≡ Some i → p + sizeOf i ≤ length code
     fits j true l d = let g : j ≡ i = cc in omega (arith, leb-true (p + sizeOf j) (length code) l, ap sizeOf g)
     fits j false l d = absurd (true≢false (cc))
+
     go : (o : Option Instruction) → whole code p o ≡ Some i → p + sizeOf i ≤ length code
     go None d = absurd (true≢false (cc))
     go (Some j) d = fits j (leb (p + sizeOf j) (length code)) refl d

@@ -17,9 +17,9 @@ use Rattle.bytecode.specs.Program.{Function, Program}
 use Rattle.plan.specs.Programs.{nth, noFunction, functionAt, codeAt, variablesAt, FormedFunction, WellFormed}
 use Rattle.plan.specs.Shapes.{Shape, Sized}
 use Rattle.plan.specs.Starts.{Marked}
-use Rattle.plan.specs.Plans.{Plan, marksIn, startsAt, Hits, entryOf, Good, Fullest}
+use Rattle.plan.specs.Plans.{marksIn, startsAt, Hits, entryOf, Fullest}
 use Rattle.plan.specs.Sweep.{Table, planOf, countTrue, Answer, most, sweepMarks, sweepFunction, decodeFrom, decodeAll, Judgement, after, sweepFrom, sweepAll, judge}
-use Rattle.plan.specs.Judgement.{Settled, Planless, Swept, AllPlanned, mostFrom, mostTakes, Accepted, Decodes, Answers, FirstUndecoded, FirstFaulty, Refused, Accepts, Says, Judged, TakesSuffice, StartsStand, bytesFrom, TakesWithin}
+use Rattle.plan.specs.Judgement.{Settled, Planless, Swept, mostFrom, mostTakes, Accepted, Decodes, Answers, Refused, Says, Judged, TakesSuffice, StartsStand, bytesFrom, TakesWithin}
 use Rattle.plan.proofs.Outcomes.{On, on-good, good-bad}
 use Rattle.plan.proofs.Starting.{starts-marked}
 use Rattle.plan.proofs.Placing.{InFunction, starts-in-function, sweep-in-function}
@@ -36,13 +36,14 @@ past-append (k ∷ ks) n (suc i) h = past-append ks n i (omega arith)
 
 pub entry-sized : (g : Function) → FormedFunction g → Sized (g .variables) (entryOf g)
 entry-sized g h =
-    record
-      { low = omega arith
-      ; kinds = tt
-      ; long =
+    record {
+      low = omega arith;
+      kinds = tt;
+      long =
           length-append (g .signature .arguments) (replicate (32 - length (g .signature .arguments)) Unknown) ∙
-          (omega (arith, length-replicate (32 - length (g .signature .arguments)) Unknown, h .counted, h .few))
-      ; unused = λ i l. past-append (g .signature .arguments) (32 - length (g .signature .arguments)) i (omega (arith, h .counted, l)) }
+          (omega (arith, length-replicate (32 - length (g .signature .arguments)) Unknown, h .counted, h .few));
+      unused = λ i l. past-append (g .signature .arguments) (32 - length (g .signature .arguments)) i (omega (arith, h .counted, l));
+    }
 
 no-function-formed : FormedFunction noFunction
 no-function-formed = record { signature = record { arguments = tt; result = tt }; counted = omega arith; few = omega arith }
@@ -76,11 +77,13 @@ unfolding sweepFunction
 sweep-swept P formed f = go (startsOf f (codeAt P f)) refl (starts-marked (codeAt P f) f)
   where
     swept : (marks : List Bool) → startsAt P f ≡ marks → Marked (codeAt P f) marks → (r : Answer)
-      → On (Planless P f) (λ r. Fullest P f (planOf (r .0)) × Finished marks (r .0) × (r .1 ≤ most P f marks)) r → Swept P f r
+        → On (Planless P f) (λ r. Fullest P f (planOf (r .0)) × Finished marks (r .0) × (r .1 ≤ most P f marks)) r → Swept P f r
     swept marks e m (bad x) h = h
-    swept marks e m (good r) h =
-        ( record { fullest = h .0; unmarked = h .1 .unmarked; size = h .1 .size ∙ m .size }
-        , subst (λ ms. r .1 ≤ most P f ms) (sym e) (h .2))
+    swept marks e m (good r) h = (
+      record { fullest = h .0; unmarked = h .1 .unmarked; size = h .1 .size ∙ m .size },
+      subst (λ ms. r .1 ≤ most P f ms) (sym e) (h .2),
+    )
+
     go : (o : Out (List Bool)) → startsOf f (codeAt P f) ≡ o → On (Unit {0}) (Marked (codeAt P f)) o → Swept P f (bind o (sweepMarks P f))
     go (bad x) e m = undecoded-planless P f x e
     go (good marks) e m =
@@ -114,7 +117,7 @@ module _ {A B : Type 0} (act : ℕ → Out A) (join : A → B → B) (seq : ℕ 
   first-bad (suc n) f e h = go (act f) refl (seq n (suc f)) refl (sym (more n f) ∙ h) (first-bad n (suc f))
     where
       go : (r : Out A) → act f ≡ r → (s : Out B) → seq n (suc f) ≡ s → bind r (λ a. bind (seq n (suc f)) (λ b. good (join a b))) ≡ bad e
-        → ((e : Fault) → seq n (suc f) ≡ bad e → FirstBad act n (suc f) e) → FirstBad act (suc n) f e
+          → ((e : Fault) → seq n (suc f) ≡ bad e → FirstBad act n (suc f) e) → FirstBad act (suc n) f e
       go (bad x) d s i h ih =
           let z : f ≡ f + 0 = omega arith in
           let q : x ≡ e = fault-same x e h in
@@ -123,18 +126,19 @@ module _ {A B : Type 0} (act : ℕ → Out A) (join : A → B → B) (seq : ℕ 
           absurd (good-bad (join a b) e (sym (ap (λ o. bind o (λ b. good (join a b))) i) ∙ h))
       go (good a) d (bad x) i h ih =
           let k = ih e (i ∙ ap bad (fault-same x e (sym (ap (λ o. bind o (λ b. good (join a b))) i) ∙ h))) in
-          record
-            { index = suc (k .index)
-            ; inside = omega (arith, k .inside)
-            ; fault = (let z : suc f + k .index ≡ f + suc (k .index) = omega arith in subst (λ m. act m ≡ bad e) z (k .fault))
-            ; before = each-more (GivesAt act) (k .index) f (a, d) (k .before) }
+          record {
+            index = suc (k .index);
+            inside = omega (arith, k .inside);
+            fault = (let z : suc f + k .index ≡ f + suc (k .index) = omega arith in subst (λ m. act m ≡ bad e) z (k .fault));
+            before = each-more (GivesAt act) (k .index) f (a, d) (k .before);
+          }
 
   all-good : (n f : ℕ) (b : B) → seq n f ≡ good b → (g : ℕ) → g < n → GivesAt act (f + g)
   all-good zero f b h = λ g l. absurd (omega arith)
   all-good (suc n) f b h = go (act f) refl (seq n (suc f)) refl (sym (more n f) ∙ h) (all-good n (suc f))
     where
       go : (r : Out A) → act f ≡ r → (s : Out B) → seq n (suc f) ≡ s → bind r (λ a. bind (seq n (suc f)) (λ b. good (join a b))) ≡ good b
-        → ((b : B) → seq n (suc f) ≡ good b → (g : ℕ) → g < n → GivesAt act (suc f + g)) → (g : ℕ) → g < suc n → GivesAt act (f + g)
+          → ((b : B) → seq n (suc f) ≡ good b → (g : ℕ) → g < n → GivesAt act (suc f + g)) → (g : ℕ) → g < suc n → GivesAt act (f + g)
       go (bad x) d s i h ih = absurd (good-bad b x (sym h))
       go (good a) d (bad x) i h ih = absurd (good-bad b x (sym h ∙ ap (λ o. bind o (λ b. good (join a b))) i))
       go (good a) d (good c) i h ih = each-more (GivesAt act) n f (a, d) (ih c i)
@@ -183,7 +187,7 @@ module _ (P : Program) where
     sweep-from (suc n) f = go (sweepFunction P f) (sweep-swept P formed f) (sweepFrom P n (suc f)) (sweep-from n (suc f))
       where
         go : (r : Answer) → Swept P f r → (s : Judgement) → On (Unit {0}) (λ r. (length (r .0) ≡ n) × AllSettled (suc f) (r .0) × (r .1 ≤ mostFrom P n (suc f))) s
-          → On (Unit {0}) (λ r. (length (r .0) ≡ suc n) × AllSettled f (r .0) × (r .1 ≤ mostFrom P (suc n) f)) (bind r (λ r. after r s))
+            → On (Unit {0}) (λ r. (length (r .0) ≡ suc n) × AllSettled f (r .0) × (r .1 ≤ mostFrom P (suc n) f)) (bind r (λ r. after r s))
         go (bad x) w s h = tt
         go (good r) w (bad x) h = tt
         go (good r) w (good q) h = (omega (arith, h .0), (w .0, h .1), omega (arith, w .1, h .2))
@@ -191,13 +195,14 @@ module _ (P : Program) where
     accepted : (r : List Table × ℕ) → sweepAll P ≡ good r → Accepted P (r .0) (r .1)
     accepted r e =
         let h = on-good (Unit {0}) (λ r. (length (r .0) ≡ length (P .functions)) × AllSettled 0 (r .0) × (r .1 ≤ mostTakes P)) (sweepAll P) r e
-                  (sweep-from (length (P .functions)) 0) in
-        record
-          { count = h .0
-          ; settled = λ f l.
+        (sweep-from (length (P .functions)) 0) in
+        record {
+          count = h .0;
+          settled = λ f l.
               let z : 0 + f ≡ f = omega arith in
-              subst (λ g. Settled P g (getD (r .0) f [])) z (settled-at 0 (r .0) (h .1) f (omega (arith, h .0)))
-          ; few = h .2 }
+              subst (λ g. Settled P g (getD (r .0) f [])) z (settled-at 0 (r .0) (h .1) f (omega (arith, h .0)));
+          few = h .2;
+        }
 
     planless : (f : ℕ) (e : Fault) → sweepFunction P f ≡ bad e → Planless P f
     planless f e h = subst (Swept P f) h (sweep-swept P formed f)
@@ -210,30 +215,33 @@ module _ (P : Program) where
         let k = first-bad decoding (λ a b. a ∷ b) (decodeFrom P) [] decode-none decode-more (length (P .functions)) 0 e h in
         let z : 0 + k .index ≡ k .index = omega arith in
         let d : startsOf (k .index) (codeAt P (k .index)) ≡ bad e = subst (λ f. startsOf f (codeAt P f) ≡ bad e) z (k .fault) in
-        record
-          { function = k .index
-          ; named = subst (InFunction (k .index)) d (starts-in-function (k .index) (codeAt P (k .index)))
-          ; inside = k .inside
-          ; first = inl (record { fault = d; before = from-zero (Decodes P) (k .index) (k .before) })
-          ; planless = undecoded-planless P (k .index) e d }
+        record {
+          function = k .index;
+          named = subst (InFunction (k .index)) d (starts-in-function (k .index) (codeAt P (k .index)));
+          inside = k .inside;
+          first = inl (record { fault = d; before = from-zero (Decodes P) (k .index) (k .before) });
+          planless = undecoded-planless P (k .index) e d;
+        }
 
     faulty : (starts : List (List Bool)) → decodeAll P ≡ good starts → (e : Fault) → sweepAll P ≡ bad e → Refused P e
     faulty starts s e h =
         let k = first-bad (sweepFunction P) joined (sweepFrom P) ([], 0) sweep-none sweep-more (length (P .functions)) 0 e h in
         let z : 0 + k .index ≡ k .index = omega arith in
         let d : sweepFunction P (k .index) ≡ bad e = subst (λ f. sweepFunction P f ≡ bad e) z (k .fault) in
-        record
-          { function = k .index
-          ; named = subst (InFunction (k .index)) d (sweep-in-function (k .index) P)
-          ; inside = k .inside
-          ; first = inr
-              (record
-                { decoded =
+        record {
+          function = k .index;
+          named = subst (InFunction (k .index)) d (sweep-in-function (k .index) P);
+          inside = k .inside;
+          first = inr
+              (record {
+                decoded =
                     from-zero (Decodes P) (length (P .functions))
-                    (all-good decoding (λ a b. a ∷ b) (decodeFrom P) [] decode-none decode-more (length (P .functions)) 0 starts s)
-                ; fault = d
-                ; before = from-zero (Answers P) (k .index) (k .before) })
-          ; planless = planless (k .index) e d }
+                    (all-good decoding (λ a b. a ∷ b) (decodeFrom P) [] decode-none decode-more (length (P .functions)) 0 starts s);
+                fault = d;
+                before = from-zero (Answers P) (k .index) (k .before);
+              });
+          planless = planless (k .index) e d;
+        }
 
     says : Says P (judge P)
     unfolding judge
@@ -249,15 +257,17 @@ module _ (P : Program) where
       where
         go : (o : Judgement) → Says P o → Judged P o
         go (bad e) h =
-            record
-              { says = h
-              ; accepts = λ all. let k = all (h .function) (h .inside) in h .planless (k .0) (k .1)
-              ; planned = λ n. absurd n }
+            record {
+              says = h;
+              accepts = λ all. let k = all (h .function) (h .inside) in h .planless (k .0) (k .1);
+              planned = λ n. absurd n;
+            }
         go (good r) h =
-            record
-              { says = h
-              ; accepts = λ all. tt
-              ; planned = λ y f l. (planOf (getD (r .0) f []), h .settled f l .fullest .sound) }
+            record {
+              says = h;
+              accepts = λ all. tt;
+              planned = λ y f l. (planOf (getD (r .0) f []), h .settled f l .fullest .sound);
+            }
 
 -- ## Takes
 
@@ -293,3 +303,17 @@ most-from-bytes P formed (suc n) f = let ih = most-from-bytes P formed n (suc f)
 
 pub takes-within : (k : ℕ) → 135168 ≤ k → TakesWithin k
 takes-within k l P formed h = omega (arith, most-from-bytes P formed (length (P .functions)) 0)
+
+-- ## The parts of the judgement
+
+pub sweep-decoded : (P : Program) (f : ℕ) (marks : List Bool) → startsOf f (codeAt P f) ≡ good marks → sweepFunction P f ≡ sweepMarks P f marks
+unfolding sweepFunction
+sweep-decoded P f marks e = ap (λ o. bind o (sweepMarks P f)) e
+
+pub judge-decoded : (P : Program) (starts : List (List Bool)) → decodeAll P ≡ good starts → judge P ≡ sweepAll P
+unfolding judge
+judge-decoded P starts e = ap (λ o. bind o (λ s. sweepAll P)) e
+
+pub judge-undecoded : (P : Program) (e : Fault) → decodeAll P ≡ bad e → judge P ≡ bad e
+unfolding judge
+judge-undecoded P e d = ap (λ o. bind o (λ s. sweepAll P)) d

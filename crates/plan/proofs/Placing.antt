@@ -1,6 +1,6 @@
 -- Every fault of a function's decoding or sweep carries the function's number.
 use Prim.Native.Nat.{ℕ, zero, suc, _+_}
-use mathlib.Core.Path.{_≡_, refl, subst}
+use mathlib.Core.Path.{_≡_, refl}
 use mathlib.Core.List.{List, [], _∷_, _++_, map}
 use mathlib.Core.Bool.{Bool, true, false, cond}
 use lib.Dec.{ltb, leb}
@@ -11,13 +11,13 @@ use Rattle.bytecode.specs.declared.kind.Kind.{Kind}
 use Rattle.bytecode.specs.declared.kind.Kind.the-variants.{Unknown, Word, Reference}
 use Rattle.bytecode.specs.declared.instruction.Instruction.{Instruction}
 use Rattle.bytecode.specs.Instructions.{sizeOf, decodeAt, onward, walk, startsOf}
-use Rattle.bytecode.specs.Outcome.{Fault, Out, bad, good, bind}
+use Rattle.bytecode.specs.Outcome.{Out, bad, good, bind}
 use Rattle.bytecode.specs.Program.{Program}
 use Rattle.plan.specs.Programs.{functionAt, codeAt, variablesAt}
 use Rattle.plan.specs.Shapes.{Shape, Merged, same, changed, clash, merge, eqKind, eqKinds}
 use Rattle.plan.specs.Effects.{Act, fixed, load, store, pop, dup, swap, alike, give, actOf, check, room, replace, popped, doubled, swapped, compared, returned, loaded, stored, keeping, perform, performed, effect}
 use Rattle.plan.specs.Plans.{successors, entryOf}
-use Rattle.plan.specs.Sweep.{Cell, off, blank, marked, settled, Table, at, fresh, merged, join, put, spread, lowest, applied, apply, visit, Answer, turn, run, most, sweepWithin, sweepMarks, sweepFunction}
+use Rattle.plan.specs.Sweep.{Cell, off, blank, marked, settled, Table, at, fresh, merged, join, put, spread, lowest, applied, apply, visit, turn, run, most, sweepWithin, sweepMarks, sweepFunction}
 
 module _ (f : ℕ) where
   -- a fault, if there is one, is of function f
@@ -164,4 +164,4 @@ module _ (f : ℕ) where
     sweep-in-function =
         in-bind (startsOf f (codeAt P f)) (sweepMarks P f) (starts-in-function (codeAt P f))
         (λ marks. in-bind (put f 0 (map fresh marks) (Some 0) (entryOf (functionAt P f))) (run P f (most P f marks) 0)
-          (in-put 0 (map fresh marks) (Some 0) (entryOf (functionAt P f))) (λ U. in-run (most P f marks) 0 U))
+        (in-put 0 (map fresh marks) (Some 0) (entryOf (functionAt P f))) (λ U. in-run (most P f marks) 0 U))

@@ -130,7 +130,7 @@ falls-more : (k l : Kind) (ks m : List Kind) → (m ≡ ks) ⊎ (knownCount m < 
 falls-more k l ks m h = go (fall k l) h
   where
     go : (meetKind k l ≡ k) ⊎ (oneIfKnown (meetKind k l) < oneIfKnown k) → (m ≡ ks) ⊎ (knownCount m < knownCount ks)
-      → (_≡_ {A = List Kind} (meetKind k l ∷ m) (k ∷ ks)) ⊎ (knownCount (meetKind k l ∷ m) < knownCount (k ∷ ks))
+        → (_≡_ {A = List Kind} (meetKind k l ∷ m) (k ∷ ks)) ⊎ (knownCount (meetKind k l ∷ m) < knownCount (k ∷ ks))
     go (inl e) (inl d) = inl (cc)
     go (inl e) (inr d) = inr (omega (arith, ap oneIfKnown e))
     go (inr e) (inl d) = inr (omega (arith, ap knownCount d))
@@ -155,24 +155,28 @@ met s x z = go (eqKinds (s .stack) (x .stack)) refl
   where
     m : List Kind
     m = meet (s .variables) (x .variables)
+
     narrow : (b : Bool) → eqKinds m (s .variables) ≡ b → s .stack ≡ x .stack → Met s x (narrowed s m b)
     narrow true d e =
-        record
-          { stack = sym e
-          ; size = sym z
-          ; variables = λ i.
+        record {
+          stack = sym e;
+          size = sym z;
+          variables = λ i.
               let h : getD m i Unknown ≡ getD (s .variables) i Unknown = ap (λ v. getD v i Unknown) (eqKinds-is _ _ d) in
               let g = getD-meet (s .variables) (x .variables) i in
-              rw (← h, g) (meet-right _ _) }
-    narrow false d e =
-        ( record { stack = refl; size = sym (length-meet _ _); variables = λ i. rw getD-meet (meet-left _ _) }
-        , record { stack = sym e; size = sym z ∙ sym (length-meet _ _); variables = λ i. rw getD-meet (meet-right _ _) }
-        , less (falls (s .variables) (x .variables))
-        , λ t p q. record { stack = p .stack; size = length-meet _ _ ∙ p .size; variables = λ i. rw getD-meet (meet-least _ _ _ (p .variables i) (q .variables i)) })
+              rw (← h, g) (meet-right _ _);
+        }
+    narrow false d e = (
+      record { stack = refl; size = sym (length-meet _ _); variables = λ i. rw getD-meet (meet-left _ _) },
+      record { stack = sym e; size = sym z ∙ sym (length-meet _ _); variables = λ i. rw getD-meet (meet-right _ _) },
+      less (falls (s .variables) (x .variables)),
+      λ t p q. record { stack = p .stack; size = length-meet _ _ ∙ p .size; variables = λ i. rw getD-meet (meet-least _ _ _ (p .variables i) (q .variables i)) },
+    )
       where
         less : (m ≡ s .variables) ⊎ (knownCount m < knownCount (s .variables)) → knownCount m < knownCount (s .variables)
         less (inl h) = let z : true ≡ false = sym (eqKinds-refl (s .variables)) ∙ (rw h at d) in absurd (true≢false z)
         less (inr h) = h
+
     go : (b : Bool) → eqKinds (s .stack) (x .stack) ≡ b → Met s x (mergeIf s x b)
     go true e = narrow (eqKinds m (s .variables)) refl (eqKinds-is _ _ e)
     go false e = λ t p q.

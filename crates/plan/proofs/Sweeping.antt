@@ -1,6 +1,6 @@
 -- The sweep of a function ends within its takes; its table is the fullest plan, or there is no good plan.
-use Prim.Native.Nat.{ℕ, zero, suc, _+_, _*_, _≤_, _<_}
-use mathlib.Core.Path.{_≡_, refl, sym, _∙_, ap, subst}
+use Prim.Native.Nat.{ℕ, zero, suc, _+_, _≤_, _<_}
+use mathlib.Core.Path.{_≡_, refl, sym, _∙_, ap}
 use mathlib.Core.List.{List, [], _∷_, map}
 use mathlib.Core.Bool.{Bool, true, false, true≢false}
 use mathlib.Core.Logic.{_⊎_, inl, inr}
@@ -12,8 +12,8 @@ use Rattle.bytecode.specs.Outcome.{Out, bad, good, bind}
 use Rattle.bytecode.specs.Program.{Program}
 use Rattle.plan.specs.Programs.{functionAt, variablesAt, WellFormed}
 use Rattle.plan.specs.Shapes.{Shape, Reach, Merged, same, changed, clash, merge, Sized}
-use Rattle.plan.specs.Plans.{Plan, startsAt, shapeAt, Hits, Lands, entryOf, Passes, Good, Fullest}
-use Rattle.plan.specs.Sweep.{Cell, off, blank, marked, settled, Table, at, shapeOf, planOf, fresh, countTrue, merged, join, put, spread, lowest, apply, visit, Answer, turn, run, most, sweepWithin, sweepMarks}
+use Rattle.plan.specs.Plans.{Plan, startsAt, shapeAt, Hits, Lands, entryOf, Good, Fullest}
+use Rattle.plan.specs.Sweep.{Cell, off, blank, marked, settled, Table, at, shapeOf, planOf, fresh, merged, join, put, spread, lowest, apply, visit, Answer, turn, run, most, sweepWithin, sweepMarks}
 use Rattle.plan.proofs.Outcomes.{On, on-bind, on-map}
 use Rattle.plan.proofs.Reaching.{reach-both, Met, met}
 use Rattle.plan.proofs.Applying.{LandsIn, passes-on, on-passes, apply-mono, apply-keeps}
@@ -42,11 +42,12 @@ module _ (P : Program) (formed : WellFormed P) (f : ℕ) (marks : List Bool) whe
   visit-lighter T p s e z =
       on-bind _ (λ r. Sized (variablesAt P f) (r .0)) _ (apply P f p s) _ (apply-keeps P f formed p s (rw e at (z p)))
       (λ r h. on-map _ (λ U. Step (variablesAt P f) (set T p (settled s)) U × Lands (r .0) (planOf U) (r .1)) _ (spread f p (r .0) (r .1) (set T p (settled s)))
-        (λ U j. (λ q. j .0 .moves q .sized (sized q), omega (arith, total-set (variablesAt P f) T p (settled s) lt, j .0 .lighter, ap (weigh (variablesAt P f)) e)))
-        (spread-steps (variablesAt P f) f p (r .0) (r .1) (set T p (settled s)) sized h))
+      (λ U j. (λ q. j .0 .moves q .sized (sized q), omega (arith, total-set (variablesAt P f) T p (settled s) lt, j .0 .lighter, ap (weigh (variablesAt P f)) e)))
+      (spread-steps (variablesAt P f) f p (r .0) (r .1) (set T p (settled s)) sized h))
     where
       lt : p < length T
       lt = not-off-within T p (λ d. absurd (true≢false (cc)))
+
       sized : SizedAll (variablesAt P f) (set T p (settled s))
       sized = over-set (λ r d. SizedAt (variablesAt P f) d) T p (settled s) (rw e at (z p)) z
 
@@ -57,31 +58,37 @@ module _ (P : Program) (formed : WellFormed P) (f : ℕ) (marks : List Bool) whe
     where
       V : ℕ
       V = variablesAt P f
+
       T₁ : Table
       T₁ = set T p (settled s)
+
       lt : p < length T
       lt = not-off-within T p (λ d. absurd (true≢false (cc)))
+
       same-plan : (q : ℕ) → Moved V (at T q) (at T₁ q)
       same-plan =
           over-set (λ r d. Moved V (at T r) d) T p (settled s) (rw e (record { hits = λ x h. h; outside = λ d. cc; sized = λ h. h })) (λ r. moved-refl V (at T r))
+
       go : (r : Out (Shape × List (Option ℕ))) → apply P f p s ≡ r → On (Unit {0}) (λ r. Sized V (r .0)) r
-        → On (Unit {0}) (λ U. Inv U × (total V U < total V T)) (bind r (λ r. spread f p (r .0) (r .1) T₁))
+          → On (Unit {0}) (λ U. Inv U × (total V U < total V T)) (bind r (λ r. spread f p (r .0) (r .1) T₁))
       go (bad x) d h = tt
       go (good r) d h = on-map _ (λ U. Step V T₁ U × Lands (r .0) (planOf U) (r .1)) _ (spread f p (r .0) (r .1) T₁)
-        (λ U j.
-          let m : (q : ℕ) → Moved V (at T q) (at U q) = λ q. moved-trans V _ _ _ (same-plan q) (j .0 .moves q) in
-          ( record
-              { sized = λ q. m q .sized (v .sized q)
-              ; sound = λ n u i.
+          (λ U j.
+          let m : (q : ℕ) → Moved V (at T q) (at U q) = λ q. moved-trans V _ _ _ (same-plan q) (j .0 .moves q) in (
+            record {
+              sized = λ q. m q .sized (v .sized q);
+              sound = λ n u i.
                   over-set (λ n d. (u : Shape) → d ≡ settled u → On ⊥ (LandsIn (planOf U)) (apply P f n u)) T p (settled s)
-                    (λ u k. let g : s ≡ u = cc in rw (← g, d) (j .1))
-                    (λ n u k. on-map _ (LandsIn (planOf T)) _ (apply P f n u) (λ q h. lands-moved V T U (q .0) (q .1) m h) (v .sound n u k))
-                    n u (j .0 .stays n u i)
-              ; begins = m 0 .hits (entryOf (functionAt P f)) (v .begins)
-              ; onto = λ q k. m q .outside (v .onto q k)
-              ; size = j .0 .size ∙ length-set T p (settled s) ∙ v .size }
-          , omega (arith, total-set V T p (settled s) lt, j .0 .lighter, ap (weigh V) e)))
-        (spread-steps V f p (r .0) (r .1) T₁ (λ q. same-plan q .sized (v .sized q)) h)
+                  (λ u k. let g : s ≡ u = cc in rw (← g, d) (j .1))
+                  (λ n u k. on-map _ (LandsIn (planOf T)) _ (apply P f n u) (λ q h. lands-moved V T U (q .0) (q .1) m h) (v .sound n u k))
+                  n u (j .0 .stays n u i);
+              begins = m 0 .hits (entryOf (functionAt P f)) (v .begins);
+              onto = λ q k. m q .outside (v .onto q k);
+              size = j .0 .size ∙ length-set T p (settled s) ∙ v .size;
+            },
+            omega (arith, total-set V T p (settled s) lt, j .0 .lighter, ap (weigh V) e),
+          ))
+          (spread-steps V f p (r .0) (r .1) T₁ (λ q. same-plan q .sized (v .sized q)) h)
 
   run-ends : (k t : ℕ) (T : Table) → Inv T → total (variablesAt P f) T ≤ k → On (Unit {0}) (Ended t T) (run P f k t T)
   unfolding run turn
@@ -91,18 +98,20 @@ module _ (P : Program) (formed : WellFormed P) (f : ℕ) (marks : List Bool) whe
     where
       V : ℕ
       V = variablesAt P f
+
       ends : ((s : Shape) → at T (lowest T) ≡ marked s → ⊥) → Ended t T (T, t)
       ends n = record { inv = v; unmarked = lowest-only T n; takes = omega arith }
+
       go : (c : Cell) → at T (lowest T) ≡ c → ((U : Table) → Inv U → total V U ≤ k → On (Unit {0}) (Ended (suc t) U) (run P f k (suc t) U))
-        → On (Unit {0}) (Ended t T) (turn P f t T (run P f k (suc t)) c)
+          → On (Unit {0}) (Ended t T) (turn P f t T (run P f k (suc t)) c)
       go off e ih = ends (λ s d. absurd (true≢false (cc)))
       go blank e ih = ends (λ s d. absurd (true≢false (cc)))
       go (settled s) e ih = ends (λ t d. absurd (true≢false (cc)))
       go (marked s) e ih =
           on-bind _ (λ U. Inv U × (total V U < total V T)) _ (visit P f T (lowest T) s) (run P f k (suc t)) (visit-inv T (lowest T) s e v)
           (λ U j. on-map _ (Ended (suc t) U) _ (run P f k (suc t) U)
-            (λ r w. record { inv = w .inv; unmarked = w .unmarked; takes = omega (arith, w .takes, j .1) })
-            (ih U (j .0) (omega (arith, j .1, h))))
+          (λ r w. record { inv = w .inv; unmarked = w .unmarked; takes = omega (arith, w .takes, j .1) })
+          (ih U (j .0) (omega (arith, j .1, h))))
 
   -- the fuel does not matter, as long as it suffices
   pub run-fuel : (j k t : ℕ) (T : Table) → SizedAll (variablesAt P f) T → total (variablesAt P f) T ≤ j → total (variablesAt P f) T ≤ k
@@ -127,8 +136,9 @@ module _ (P : Program) (formed : WellFormed P) (f : ℕ) (marks : List Bool) whe
     where
       V : ℕ
       V = variablesAt P f
+
       go : (c : Cell) → at T (lowest T) ≡ c → ((U : Table) → SizedAll V U → total V U ≤ j → total V U ≤ k → run P f j (suc t) U ≡ run P f k (suc t) U)
-        → turn P f t T (run P f j (suc t)) c ≡ turn P f t T (run P f k (suc t)) c
+          → turn P f t T (run P f j (suc t)) c ≡ turn P f t T (run P f k (suc t)) c
       go off e ih = refl
       go blank e ih = refl
       go (settled s) e ih = refl
@@ -201,6 +211,7 @@ module _ (P : Program) (f : ℕ) (Q : Plan) (ok : Good P f Q) where
     where
       hit : Hits s (Q p)
       hit = rw e at (b p)
+
       passing : (d : Option Shape) → Q p ≡ d → Hits s d → On ⊥ (LandsIn Q) (apply P f p s)
       passing None e h = absurd h
       passing (Some t) e h = apply-mono P f p s t h Q (passes-on P f Q p t (ok .passes p t e))
@@ -211,7 +222,7 @@ module _ (P : Program) (f : ℕ) (Q : Plan) (ok : Good P f Q) where
   run-below (suc k) t T b = go (at T (lowest T)) refl (run-below k (suc t))
     where
       go : (c : Cell) → at T (lowest T) ≡ c → ((U : Table) → AllBelow U Q → On ⊥ (λ r. AllBelow (r .0) Q) (run P f k (suc t) U))
-        → On ⊥ (λ r. AllBelow (r .0) Q) (turn P f t T (run P f k (suc t)) c)
+          → On ⊥ (λ r. AllBelow (r .0) Q) (turn P f t T (run P f k (suc t)) c)
       go off e ih = b
       go blank e ih = b
       go (settled s) e ih = b
@@ -266,20 +277,23 @@ pub record Finished (marks : List Bool) (T : Table) : Type 0 where
 module _ (P : Program) (formed : WellFormed P) (f : ℕ) (marks : List Bool) (there : startsAt P f ≡ marks) where
   inv-good : (T : Table) → Inv P formed f marks T → Unmarked T → Good P f (planOf T)
   inv-good T v n =
-      record
-        { begins = v .begins
-        ; starts = λ p s e. starting p s e (getD marks p false) refl
-        ; sized = λ p s. size p s (at T p) refl
-        ; passes = λ p s e. on-passes P f (planOf T) p s (go p s (at T p) refl e) }
+      record {
+        begins = v .begins;
+        starts = λ p s e. starting p s e (getD marks p false) refl;
+        sized = λ p s. size p s (at T p) refl;
+        passes = λ p s e. on-passes P f (planOf T) p s (go p s (at T p) refl e);
+      }
     where
       starting : (p : ℕ) (s : Shape) → shapeOf (at T p) ≡ Some s → (b : Bool) → getD marks p false ≡ b → getD (startsAt P f) p false ≡ true
       starting p s e true h = ap (λ m. getD m p false) there ∙ h
       starting p s e false h = let d = v .onto p h in let g : shapeOf (at T p) ≡ None = ap shapeOf d in absurd (true≢false (cc))
+
       size : (p : ℕ) (s : Shape) (c : Cell) → at T p ≡ c → shapeOf c ≡ Some s → Sized (variablesAt P f) s
       size p s off e h = absurd (true≢false (cc))
       size p s blank e h = absurd (true≢false (cc))
       size p s (marked t) e h = let d : t ≡ s = cc in rw d at (rw e at (v .sized p))
       size p s (settled t) e h = let d : t ≡ s = cc in rw d at (rw e at (v .sized p))
+
       go : (p : ℕ) (s : Shape) (c : Cell) → at T p ≡ c → shapeOf c ≡ Some s → On ⊥ (LandsIn (planOf T)) (apply P f p s)
       go p s off e h = absurd (true≢false (cc))
       go p s blank e h = absurd (true≢false (cc))
@@ -291,19 +305,22 @@ module _ (P : Program) (formed : WellFormed P) (f : ℕ) (marks : List Bool) (th
         (put f 0 (map fresh marks) (Some 0) (entryOf (functionAt P f)))
     first-inv = on-map _ (λ U. Step (variablesAt P f) (map fresh marks) U × Hits (entryOf (functionAt P f)) (planOf U 0)) _
         (put f 0 (map fresh marks) (Some 0) (entryOf (functionAt P f)))
-        (λ U j.
-          ( record
-              { sized = λ q. j .0 .moves q .sized (sized q (fresh-cell marks q))
-              ; sound = λ p s e. absurd (unsettled p s (fresh-cell marks p) (j .0 .stays p s e))
-              ; begins = j .1
-              ; onto = λ p h. j .0 .moves p .outside (fresh-off marks p h)
-              ; size = j .0 .size ∙ length-map marks fresh }
-          , omega (arith, total-fresh (variablesAt P f) marks, j .0 .lighter)))
+        (λ U j. (
+          record {
+            sized = λ q. j .0 .moves q .sized (sized q (fresh-cell marks q));
+            sound = λ p s e. absurd (unsettled p s (fresh-cell marks p) (j .0 .stays p s e));
+            begins = j .1;
+            onto = λ p h. j .0 .moves p .outside (fresh-off marks p h);
+            size = j .0 .size ∙ length-map marks fresh;
+          },
+          omega (arith, total-fresh (variablesAt P f) marks, j .0 .lighter),
+        ))
         (put-steps (variablesAt P f) f 0 (map fresh marks) (Some 0) (entryOf (functionAt P f)) (λ q. sized q (fresh-cell marks q)) entry)
       where
         sized : (q : ℕ) → (at (map fresh marks) q ≡ off) ⊎ (at (map fresh marks) q ≡ blank) → SizedAt (variablesAt P f) (at (map fresh marks) q)
         sized q (inl e) = rw e tt
         sized q (inr e) = rw e tt
+
         unsettled : (p : ℕ) (s : Shape) → (at (map fresh marks) p ≡ off) ⊎ (at (map fresh marks) p ≡ blank) → at (map fresh marks) p ≡ settled s → ⊥
         unsettled p s (inl e) d = absurd (true≢false (cc))
         unsettled p s (inr e) d = absurd (true≢false (cc))
@@ -313,15 +330,15 @@ module _ (P : Program) (formed : WellFormed P) (f : ℕ) (marks : List Bool) (th
     sweep-ends =
         on-bind _ (λ U. Inv P formed f marks U × (total (variablesAt P f) U ≤ most P f marks)) _ (put f 0 (map fresh marks) (Some 0) (entryOf (functionAt P f))) _ first-inv
         (λ U j. on-map _ (Ended P formed f marks 0 U) _ (run P f (most P f marks) 0 U)
-          (λ r w. (w .inv, w .unmarked, omega (arith, w .takes, j .1)))
-          (run-ends P formed f marks (most P f marks) 0 U (j .0) (j .1)))
+        (λ r w. (w .inv, w .unmarked, omega (arith, w .takes, j .1)))
+        (run-ends P formed f marks (most P f marks) 0 U (j .0) (j .1)))
 
     pub sweep-fuel : (k : ℕ) → most P f marks ≤ k → sweepWithin P f k marks ≡ sweepMarks P f marks
     unfolding sweepWithin
     sweep-fuel k l = go (put f 0 (map fresh marks) (Some 0) (entryOf (functionAt P f))) first-inv
       where
         go : (r : Out Table) → On (Unit {0}) (λ U. Inv P formed f marks U × (total (variablesAt P f) U ≤ most P f marks)) r
-          → bind r (run P f k 0) ≡ bind r (run P f (most P f marks) 0)
+            → bind r (run P f k 0) ≡ bind r (run P f (most P f marks) 0)
         go (bad x) h = refl
         go (good U) h = run-fuel P formed f marks k (most P f marks) 0 U (h .0 .sized) (omega (arith, h .1, l)) (h .1)
 
@@ -330,13 +347,14 @@ module _ (P : Program) (formed : WellFormed P) (f : ℕ) (marks : List Bool) (th
     sweep-fullest = go (sweepMarks P f marks) sweep-ends (λ Q g. sweep-below P f Q g marks there)
       where
         go : (r : Answer) → On (Unit {0}) (λ r. Inv P formed f marks (r .0) × Unmarked (r .0) × (r .1 ≤ most P f marks)) r
-          → ((Q : Plan) → Good P f Q → On ⊥ (λ r. AllBelow (r .0) Q) r)
-          → On ((Q : Plan) → Good P f Q → ⊥) (λ r. Fullest P f (planOf (r .0)) × Finished marks (r .0) × (r .1 ≤ most P f marks)) r
+            → ((Q : Plan) → Good P f Q → On ⊥ (λ r. AllBelow (r .0) Q) r)
+            → On ((Q : Plan) → Good P f Q → ⊥) (λ r. Fullest P f (planOf (r .0)) × Finished marks (r .0) × (r .1 ≤ most P f marks)) r
         go (bad x) h k = k
-        go (good r) h k =
-            ( record { sound = inv-good (r .0) (h .0) (h .1); full = λ Q g. below-full (r .0) Q (k Q g) }
-            , record { unmarked = h .1; size = h .0 .size }
-            , h .2)
+        go (good r) h k = (
+          record { sound = inv-good (r .0) (h .0) (h .1); full = λ Q g. below-full (r .0) Q (k Q g) },
+          record { unmarked = h .1; size = h .0 .size },
+          h .2,
+        )
 
 -- ## There is one fullest plan
 

@@ -5,13 +5,12 @@ use mathlib.Core.List.{List, [], _∷_, map}
 use mathlib.Core.Bool.{Bool, true, false, true≢false}
 use mathlib.Core.Logic.{_⊎_, inl, inr}
 use native.Mathlib.Omega.{arith}
-use lib.ListN.{getD, set, length, length-set}
+use lib.ListN.{set, length, length-set}
 use lib.Seq.{getD-set-same}
 use Rattle.std.specs.declared.option.Option.{Option}
 use Rattle.std.specs.declared.option.Option.the-variants.{Some, None}
-use Rattle.bytecode.specs.Outcome.{Out, bad, good, bind}
-use Rattle.plan.specs.Shapes.{Shape, Reach, Merged, same, changed, clash, merge, Sized}
-use Rattle.plan.specs.Plans.{Plan, shapeAt, Hits, Lands}
+use Rattle.plan.specs.Shapes.{Shape, Merged, same, changed, clash, merge, Sized}
+use Rattle.plan.specs.Plans.{shapeAt, Hits, Lands}
 use Rattle.plan.specs.Sweep.{Cell, off, blank, marked, settled, Table, at, shapeOf, planOf, fresh, countTrue, merged, join, put, spread, lowest}
 use Rattle.plan.proofs.Outcomes.{On, on-bind, on-map}
 use Rattle.plan.proofs.Reaching.{knownCount, reach-refl, reach-trans, known-sized, reach-sized, Met, met}
@@ -112,8 +111,13 @@ pub record Joined (V : ℕ) (c : Cell) (x : Shape) (d : Cell) : Type 0 where
 module _ (V : ℕ) (s x : Shape) (c : Cell) (is : shapeOf c ≡ Some s) (cases : (c ≡ marked s) ⊎ (c ≡ settled s)) where
   kept-joined : Met s x same → Joined V c x c
   kept-joined i =
-      record { moved = moved-refl V c; stays = λ t e. e; lighter = omega arith; hit = rw is i
-             ; inside = λ e. go cases e }
+      record {
+        moved = moved-refl V c;
+        stays = λ t e. e;
+        lighter = omega arith;
+        hit = rw is i;
+        inside = λ e. go cases e;
+      }
     where
       go : (c ≡ marked s) ⊎ (c ≡ settled s) → c ≡ off → ⊥
       go (inl d) e = absurd (true≢false (cc))
@@ -124,19 +128,21 @@ module _ (V : ℕ) (s x : Shape) (c : Cell) (is : shapeOf c ≡ Some s) (cases :
     where
       go : (c ≡ marked s) ⊎ (c ≡ settled s) → Joined V c x (marked u)
       go (inl d) =
-          record
-            { moved = record { hits = λ y j. reach-trans y s u (rw is at j) (i .0); outside = λ e. cc; sized = λ j. reach-sized V s u (i .0) (rw d at j) }
-            ; stays = λ t e. cc
-            ; lighter = omega (arith, ap (weigh V) d, i .2)
-            ; hit = i .1
-            ; inside = λ e. absurd (true≢false (cc)) }
+          record {
+            moved = record { hits = λ y j. reach-trans y s u (rw is at j) (i .0); outside = λ e. cc; sized = λ j. reach-sized V s u (i .0) (rw d at j) };
+            stays = λ t e. cc;
+            lighter = omega (arith, ap (weigh V) d, i .2);
+            hit = i .1;
+            inside = λ e. absurd (true≢false (cc));
+          }
       go (inr d) =
-          record
-            { moved = record { hits = λ y j. reach-trans y s u (rw is at j) (i .0); outside = λ e. cc; sized = λ j. reach-sized V s u (i .0) (rw d at j) }
-            ; stays = λ t e. cc
-            ; lighter = omega (arith, ap (weigh V) d, i .2)
-            ; hit = i .1
-            ; inside = λ e. absurd (true≢false (cc)) }
+          record {
+            moved = record { hits = λ y j. reach-trans y s u (rw is at j) (i .0); outside = λ e. cc; sized = λ j. reach-sized V s u (i .0) (rw d at j) };
+            stays = λ t e. cc;
+            lighter = omega (arith, ap (weigh V) d, i .2);
+            hit = i .1;
+            inside = λ e. absurd (true≢false (cc));
+          }
 
   merged-joined : (f q : ℕ) (m : Merged) → Met s x m → On (Unit {0}) (Joined V c x) (merged f q c m)
   merged-joined f q same i = kept-joined i
@@ -147,12 +153,13 @@ joined : (V f p q : ℕ) (c : Cell) (x : Shape) → SizedAt V c → Sized V x �
 unfolding join
 joined V f p q off x n h = tt
 joined V f p q blank x n h =
-    record
-      { moved = record { hits = λ y i. absurd i; outside = λ e. cc; sized = λ i. h }
-      ; stays = λ s e. cc
-      ; lighter = omega (arith, known-sized V x h)
-      ; hit = reach-refl x
-      ; inside = λ e. absurd (true≢false (cc)) }
+    record {
+      moved = record { hits = λ y i. absurd i; outside = λ e. cc; sized = λ i. h };
+      stays = λ s e. cc;
+      lighter = omega (arith, known-sized V x h);
+      hit = reach-refl x;
+      inside = λ e. absurd (true≢false (cc));
+    }
 joined V f p q (marked s) x n h = merged-joined V s x (marked s) refl (inl refl) f q (merge s x) (met s x (n .long ∙ sym (h .long)))
 joined V f p q (settled s) x n h = merged-joined V s x (settled s) refl (inr refl) f q (merge s x) (met s x (n .long ∙ sym (h .long)))
 
@@ -170,13 +177,15 @@ pub put-steps : (V f p : ℕ) (T : Table) (q : Option ℕ) (x : Shape) → Sized
 unfolding put
 put-steps V f p T None x n h = tt
 put-steps V f p T (Some q) x n h = on-bind _ (Joined V (at T q) x) _ (join f p q (at T q) x) _ (joined V f p q (at T q) x (n q) h)
-    (λ c j. let g : q < length T = not-off-within T q (j .inside) in
-      ( record
-          { moves = over-set (λ r d. Moved V (at T r) d) T q c (j .moved) (λ r. moved-refl V (at T r))
-          ; stays = over-set (λ r d. (s : Shape) → d ≡ settled s → at T r ≡ settled s) T q c (j .stays) (λ r s e. e)
-          ; lighter = omega (arith, total-set V T q c g, j .lighter)
-          ; size = length-set T q c }
-      , rw getD-set-same (j .hit)))
+    (λ c j. let g : q < length T = not-off-within T q (j .inside) in (
+      record {
+        moves = over-set (λ r d. Moved V (at T r) d) T q c (j .moved) (λ r. moved-refl V (at T r));
+        stays = over-set (λ r d. (s : Shape) → d ≡ settled s → at T r ≡ settled s) T q c (j .stays) (λ r s e. e);
+        lighter = omega (arith, total-set V T q c g, j .lighter);
+        size = length-set T q c;
+      },
+      rw getD-set-same (j .hit),
+    ))
 
 hits-moved : (V : ℕ) (T U : Table) (q : Option ℕ) (x : Shape) → ((r : ℕ) → Moved V (at T r) (at U r)) → Hits x (shapeAt (planOf T) q) → Hits x (shapeAt (planOf U) q)
 hits-moved V T U None x m h = h
@@ -193,11 +202,13 @@ spread-steps V f p x [] T n h = (record { moves = λ q. moved-refl V (at T q); s
 spread-steps V f p x (q ∷ qs) T n h =
     on-bind _ (λ U. Step V T U × Hits x (shapeAt (planOf U) q)) _ (put f p T q x) (spread f p x qs) (put-steps V f p T q x n h)
     (λ U j. on-map _ (λ W. Step V U W × Lands x (planOf W) qs) _ (spread f p x qs U)
-      (λ W k.
-        ( record
-            { moves = λ r. moved-trans V _ _ _ (j .0 .moves r) (k .0 .moves r)
-            ; stays = λ r s e. j .0 .stays r s (k .0 .stays r s e)
-            ; lighter = omega arith
-            ; size = k .0 .size ∙ j .0 .size }
-        , (hits-moved V U W q x (k .0 .moves) (j .1), k .1)))
-      (spread-steps V f p x qs U (λ r. j .0 .moves r .sized (n r)) h))
+    (λ W k. (
+      record {
+        moves = λ r. moved-trans V _ _ _ (j .0 .moves r) (k .0 .moves r);
+        stays = λ r s e. j .0 .stays r s (k .0 .stays r s e);
+        lighter = omega arith;
+        size = k .0 .size ∙ j .0 .size;
+      },
+      (hits-moved V U W q x (k .0 .moves) (j .1), k .1),
+    ))
+    (spread-steps V f p x qs U (λ r. j .0 .moves r .sized (n r)) h))

@@ -1,12 +1,12 @@
 -- What the judgement of a program says of its plans.
 use Prim.Native.Nat.{ℕ, zero, suc, _+_, _<_, _≤_}
 use mathlib.Core.Path.{_≡_}
-use mathlib.Core.List.{List, [], _∷_}
+use mathlib.Core.List.{List, []}
 use mathlib.Core.Bool.{Bool}
 use mathlib.Core.Logic.{_⊎_}
 use lib.ListN.{length, getD}
 use Rattle.bytecode.specs.Instructions.{startsOf}
-use Rattle.bytecode.specs.Outcome.{Fault, Out, bad, good}
+use Rattle.bytecode.specs.Outcome.{Fault, bad, good}
 use Rattle.bytecode.specs.Program.{Program}
 use Rattle.plan.specs.Programs.{codeAt, WellFormed}
 use Rattle.plan.specs.Shapes.{Shape}
@@ -16,7 +16,7 @@ use Rattle.plan.specs.Sweep.{marked, Table, at, planOf, Answer, most, sweepWit
 
 -- ## One function
 
--- the table of a function: a cell for each byte of its code, no mark left, the fullest plan, found within S × (V + 1) takes
+-- the table of a function after its sweep: a cell for each byte of its code, no mark left, and the fullest plan
 pub record Settled (P : Program) (f : ℕ) (T : Table) : Type 0 where
   pub fullest : Fullest P f (planOf T)
   pub unmarked : (q : ℕ) (s : Shape) → at T q ≡ marked s → ⊥
@@ -25,7 +25,7 @@ pub record Settled (P : Program) (f : ℕ) (T : Table) : Type 0 where
 abbrev pub Planless : Program → ℕ → Type 0
 Planless P f = (plan : Plan) → Good P f plan → ⊥
 
--- the sweep of a function finds its fullest plan; it faults only if there is no good plan
+-- the sweep of a function finds its fullest plan within S × (V + 1) takes; it faults only if there is no good plan
 abbrev pub Swept : Program → ℕ → Answer → Type 0
 Swept P f (bad e) = Planless P f
 Swept P f (good r) = Settled P f (r .0) × (r .1 ≤ most P f (startsAt P f))

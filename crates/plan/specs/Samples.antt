@@ -51,6 +51,8 @@ pub record Samples (takes : ℕ) : Type 0 where
   -- vload 0 of a function without variables, and of a variable that was not set
   pub absent : judge (mainOf (0x15 ∷ 0x00 ∷ 0xB0 ∷ [])) ≡ bad (21, 0, 0)
   pub unset : judge (programOf (giving [] 1 (0x15 ∷ 0x00 ∷ 0xB0 ∷ []) ∷ [])) ≡ bad (21, 0, 0)
+  -- aconst_null 33 times
+  pub high : judge (mainOf (replicate 33 0x01)) ≡ bad (19, 0, 32)
   -- iadd on an empty stack; the second function, which cannot be decoded, comes before it
   pub few : judge (mainOf (0x60 ∷ [])) ≡ bad (18, 0, 0)
   pub late : judge (programOf (giving [] 0 (0x60 ∷ []) ∷ giving [] 0 (0x00 ∷ 0x10 ∷ []) ∷ [])) ≡ bad (17, 1, 1)

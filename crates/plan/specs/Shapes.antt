@@ -1,5 +1,5 @@
 -- Shapes: the kinds on the operand stack and of the variables. When one shape reaches another, and what two become that meet.
-use Prim.Native.Nat.{ℕ, zero, suc, _+_, _≤_}
+use Prim.Native.Nat.{ℕ, _≤_}
 use mathlib.Core.Path.{_≡_}
 use mathlib.Core.List.{List, [], _∷_}
 use mathlib.Core.Logic.{_⊎_}
@@ -7,7 +7,7 @@ use mathlib.Core.Bool.{Bool, true, false, _&&_}
 use lib.ListN.{getD, length}
 use Rattle.bytecode.specs.declared.kind.Kind.{Kind}
 use Rattle.bytecode.specs.declared.kind.Kind.the-variants.{Unknown, Word, Reference}
-use Rattle.plan.specs.Programs.{Known, AllKnown}
+use Rattle.plan.specs.Programs.{AllKnown}
 
 -- the stack has its top first; a variable of which nothing is known is Unknown, in words none
 pub record Shape : Type 0 where

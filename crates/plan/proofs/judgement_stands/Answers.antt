@@ -6,10 +6,11 @@ use Rattle.plan.proofs.judgement_stands.Needs as need
 
 pub returns : need.returns
 returns c =
-    record
-      { judged = λ P formed. judged P formed
-      ; swept = sweep-swept
-      ; suffice = takes-suffice
-      ; one = fullest-one
-      ; starts = starts-stand
-      ; within = takes-within _ (omega arith) }
+    record {
+      judged = λ P formed. judged P formed;
+      swept = sweep-swept;
+      suffice = takes-suffice;
+      one = fullest-one;
+      starts = starts-stand;
+      within = takes-within _ (omega arith);
+    }
