@@ -1,0 +1,5 @@
+mod Repeating
+mod Fits
+mod Places
+mod Turns
+mod Joining

@@ -1,0 +1,4 @@
+pub mod Fields
+pub mod Layout
+pub mod View
+pub mod Samples
