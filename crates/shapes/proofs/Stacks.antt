@@ -1,7 +1,7 @@
 -- Stacks in arrays: by their places, and what keeps a record in order.
 use Prim.Native.Nat.{ℕ, zero, suc, _+_, _-_, _<_, _≤_}
 use mathlib.Core.Path.{_≡_, refl, sym, _∙_, ap, subst}
-use mathlib.Core.List.{List, [], _∷_, _++_, map}
+use mathlib.Core.List.{List, [], _∷_, _++_, map, reverse}
 use mathlib.Core.Logic.{_⊎_, inl, inr, _≢_}
 use mathlib.Core.Bool.{Bool, true, false, _&&_}
 use native.Mathlib.Omega.{arith}
@@ -9,7 +9,7 @@ use native.Mathlib.Decide.{decLt}
 use native.Mathlib.Numerals.{add-one}
 use lib.ListN.{getD, set, length, take, drop, length-set, replicate}
 use lib.Seq.{getD-set-same, getD-set-other}
-use Rattle.std.proofs.shelf.Lists.{ext-getD}
+use Rattle.std.proofs.shelf.Lists.{ext-getD, length-reverse, getD-append-left, getD-reverse}
 use Rattle.bytecode.specs.declared.kind.Kind.{Kind}
 use Rattle.bytecode.specs.declared.kind.Kind.the-variants.{Unknown}
 use Rattle.plan.specs.Shapes.{Shape, eqKind, eqKinds}
@@ -79,6 +79,19 @@ stack-same (suc n) xs ys h =
     let a : getD xs n Unknown ≡ getD ys n Unknown = h n (omega arith) in
     let b : stackOf n xs ≡ stackOf n ys = stack-same n xs ys (λ k l. h k (omega arith)) in
     cc
+
+pub getD-stack : (n : ℕ) (xs : List Kind) (k : ℕ) → k < n → getD (stackOf n xs) k Unknown ≡ getD xs (n - 1 - k) Unknown
+getD-stack zero xs k h = absurd (omega arith)
+getD-stack (suc n) xs zero h = let e : suc n - 1 - 0 ≡ n = omega arith in rw e
+getD-stack (suc n) xs (suc k) h = let e : suc n - 1 - suc k ≡ n - 1 - k = omega arith in rw e (getD-stack n xs k (omega arith))
+
+-- the entries of a list, with others after them, are a stack with its last on top
+pub stack-reverse : (ks rest : List Kind) → stackOf (length ks) (ks ++ rest) ≡ reverse ks
+stack-reverse ks rest =
+    ext-getD Unknown _ _ (length-stack (length ks) (ks ++ rest) ∙ sym (length-reverse ks))
+    (λ k h.
+      let l : k < length ks = omega (arith, length-stack (length ks) (ks ++ rest)) in
+      getD-stack (length ks) (ks ++ rest) k l ∙ getD-append-left ks rest Unknown (length ks - 1 - k) (omega arith) ∙ sym (getD-reverse ks k Unknown l))
 
 -- an entry above the stack leaves it as it was
 pub stack-set : (n : ℕ) (xs : List Kind) (k : Kind) → stackOf n (set xs n k) ≡ stackOf n xs

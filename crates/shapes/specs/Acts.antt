@@ -1,10 +1,11 @@
 -- What an act in memory stands for.
 use Prim.Native.Nat.{ℕ}
 use mathlib.Core.List.{List, [], _∷_}
-use lib.ListN.{drop}
+use lib.ListN.{drop, replicate}
 use Rattle.std.specs.declared.option.Option.{Option}
 use Rattle.std.specs.declared.option.Option.the-variants.{Some, None}
 use Rattle.bytecode.specs.declared.kind.Kind.{Kind}
+use Rattle.bytecode.specs.declared.kind.Kind.the-variants.{Unknown}
 use Rattle.bytecode.specs.Outcome.{Out}
 use Rattle.plan.specs.Shapes.{Shape}
 use Rattle.plan.specs.Effects.{Act, fixed, load, store, pop, dup, swap, alike, give, room, keeping}
@@ -16,6 +17,9 @@ use Rattle.shapes.specs.Records.{stackOf}
 -- the kinds with the top first
 abbrev pub kindsOf : Kinds → List Kind
 kindsOf ks = stackOf (ks .count) (ks .entries)
+
+abbrev pub noKinds : Kinds
+noKinds = record { count = 0; entries = replicate 32 Unknown }
 
 abbrev pub oneOrNone : Option Kind → List Kind
 oneOrNone None = []

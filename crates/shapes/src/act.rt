@@ -6,7 +6,7 @@ ghost use lib.ListN.{take};
 ghost use Rattle.bytecode.specs.Outcome.{told};
 ghost use Rattle.plan.specs.Effects.{perform as performOf, fixed, load as loadOf, store as storeOf, pop as popOf, dup as dupOf, swap as swapOf, alike, give as giveOf};
 ghost use Rattle.plan.specs.Shapes.{eqKinds};
-ghost use Rattle.shapes.specs.Acts.{actIn, kindsOf, oneOrNone, lowered, pushed};
+ghost use Rattle.shapes.specs.Acts.{noKinds, actIn, kindsOf, oneOrNone, lowered, pushed};
 ghost use Rattle.shapes.specs.Records.{stackOf, shapeIn, Tidy};
 
 use crate::kinds::clear;
@@ -40,7 +40,7 @@ pub enum StackAct {
 
 impl Kinds {
     pub fn none() -> Kinds
-        ensures { λ r. ⌜ kindsOf r ≡ [] ⌝ }
+        ensures { λ r. ⌜ r ≡ noKinds ⌝ }
     {
         Kinds { count: 0, entries: no_kinds() }
     }

@@ -1,0 +1,6 @@
+mod Searching
+mod Walking
+mod Spreading
+mod Arguments
+mod Forming
+mod Taking

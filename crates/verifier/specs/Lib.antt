@@ -1,2 +1,3 @@
 pub mod Flows
 pub mod Fresh
+pub mod Acting

@@ -1,4 +1,6 @@
 // The verifier: decodes and sweeps a package's code, and accepts the package or names the first check that it fails.
+mod effect;
 mod flow;
 mod starts;
+mod sweep;
 mod worklist;

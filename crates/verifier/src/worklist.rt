@@ -36,7 +36,7 @@ pub(crate) fn lowest(table: &[ShapeRecord], from: usize) -> usize
 }
 
 // A shape goes on from a place to the next or to a target. Nothing is marked below `low`; answers such a bound for the table afterwards.
-fn go_on(table: &mut [ShapeRecord], shape: &ShapeRecord, function: usize, from: usize, to: Option<usize>, low: usize) -> Result<usize, Refusal>
+pub(crate) fn go_on(table: &mut [ShapeRecord], shape: &ShapeRecord, function: usize, from: usize, to: Option<usize>, low: usize) -> Result<usize, Refusal>
     requires neat { ⌜ Neat (now table) ⌝ }
     requires tidy { ⌜ Tidy (now shape) ⌝ }
     requires low { ⌜ low ≤ lowestOf (map cellOf (now table)) ⌝ }
