@@ -17,7 +17,7 @@ use Rattle.plan.specs.Sweep.{Cell, off, blank, marked, settled}
 use Rattle.shapes.specs.declared.table.ShapeRecord.{ShapeRecord}
 use Rattle.shapes.specs.declared.table.ShapeMark.{ShapeMark}
 use Rattle.shapes.specs.declared.table.ShapeMark.the-variants.{Blank, Start, Due, Shaped}
-use Rattle.shapes.specs.Records.{stackOf, shapeIn, cellAs, cellOf, entriesOf, recordWith, emptyRecord, HasShape, Tidy, Whole, Neat}
+use Rattle.shapes.specs.Records.{stackOf, shapeIn, cellAs, cellOf, entriesOf, recordWith, emptyRecord, workingRecord, HasShape, Tidy, Whole, Neat}
 use Rattle.shapes.specs.Acts.{lowered}
 use Rattle.shapes.proofs.Narrowing.{and-true, and-false}
 
@@ -136,13 +136,6 @@ entries-stack n xs h l c = ext-getD Unknown xs _ (l ∙ sym (length-entries (sta
     go : (k : ℕ) → Dec (k < n) → getD xs k Unknown ≡ getD (entriesOf (stackOf n xs)) k Unknown
     go k (yes i) = sym (entries-below n xs h k i)
     go k (no i) = c k (omega arith) ∙ sym (entries-above n xs k (omega arith))
-
--- the record of a cell while the sweep works
-abbrev pub workingRecord : Cell → ShapeRecord
-workingRecord off = emptyRecord Blank
-workingRecord blank = emptyRecord Start
-workingRecord (marked s) = recordWith Due s
-workingRecord (settled s) = recordWith Shaped s
 
 pub whole-is : (r : ShapeRecord) → Whole r → r ≡ workingRecord (cellOf r)
 whole-is r w = go (r .mark) refl (w .vacant)

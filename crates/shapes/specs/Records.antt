@@ -50,7 +50,14 @@ emptyRecord m = record { mark = m; depth = 0; stack = replicate 32 Unknown; vari
 abbrev pub blankRecord : ShapeRecord
 blankRecord = emptyRecord Blank
 
--- the record of a place that has a shape, or none
+-- the record of a cell while the sweep works
+abbrev pub workingRecord : Cell → ShapeRecord
+workingRecord off = emptyRecord Blank
+workingRecord blank = emptyRecord Start
+workingRecord (marked s) = recordWith Due s
+workingRecord (settled s) = recordWith Shaped s
+
+-- the record of a place that has a shape, or none, after the sweep
 abbrev pub recordOf : Option Shape → ShapeRecord
 recordOf None = blankRecord
 recordOf (Some s) = recordWith Shaped s

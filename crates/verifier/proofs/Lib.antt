@@ -2,5 +2,10 @@ mod Searching
 mod Walking
 mod Spreading
 mod Arguments
-mod Forming
+pub mod Forming
 mod Taking
+pub mod Parts
+mod Decoding
+mod Sweeping
+mod Finishing
+mod Judging
