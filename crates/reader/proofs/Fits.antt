@@ -39,19 +39,20 @@ function-formed : (bs : List ℕ) (f : Function) → FunctionFits bs f → Funct
 function-formed bs f h k =
     let n : length (bytesFrom bs (f .code) (f .size)) ≡ f .size = bytes-length bs (f .code) (f .size) (h .inside) in
     let m : length (map kindOf (bytesFrom bs (f .kinds + 1) (f .arguments))) ≡ f .arguments =
-          length-map (bytesFrom bs (f .kinds + 1) (f .arguments)) kindOf ∙ bytes-length bs (f .kinds + 1) (f .arguments) k in
-    record
-      { some = omega (arith, n, h .some)
-      ; few = omega (arith, n, h .few)
-      ; narrow = h .narrow
-      ; ordered = omega (arith, m, h .ordered)
-      ; takes = letters-told (bytesFrom bs (f .kinds + 1) (f .arguments))
-      ; gives = letter-told (byte bs (f .kinds)) }
+    length-map (bytesFrom bs (f .kinds + 1) (f .arguments)) kindOf ∙ bytes-length bs (f .kinds + 1) (f .arguments) k in
+    record {
+      some = omega (arith, n, h .some);
+      few = omega (arith, n, h .few);
+      narrow = h .narrow;
+      ordered = omega (arith, m, h .ordered);
+      takes = letters-told (bytesFrom bs (f .kinds + 1) (f .arguments));
+      gives = letter-told (byte bs (f .kinds));
+    }
 
 native-formed : (bs : List ℕ) (f : Native) → NativeFits f → NativeLettered bs f → NativeFormed (nativeOf bs f)
 native-formed bs f h k =
     let m : length (map kindOf (bytesFrom bs (f .kinds + 1) (f .arguments))) ≡ f .arguments =
-          length-map (bytesFrom bs (f .kinds + 1) (f .arguments)) kindOf ∙ bytes-length bs (f .kinds + 1) (f .arguments) k in
+    length-map (bytesFrom bs (f .kinds + 1) (f .arguments)) kindOf ∙ bytes-length bs (f .kinds + 1) (f .arguments) k in
     record { few = omega (arith, m, h); takes = letters-told (bytesFrom bs (f .kinds + 1) (f .arguments)); gives = letter-told (byte bs (f .kinds)) }
 
 functions-formed : (bs : List ℕ) (fs : List Function) → All (FunctionFits bs) fs → All (FunctionLettered bs) fs → All FunctionFormed (map (functionOf bs) fs)
@@ -69,19 +70,20 @@ pub fitting-from : (p : Package) → length (p .functions) ≡ 64 → length (p 
     FunctionsKnown (now (p .bytes)) (take (p .«function_count») (p .functions)) → NativesKnown (now (p .bytes)) (take (p .«native_count») (p .natives)) →
     codeSize (programOf p .functions) ≡ p .«code_size» → Fitting p
 fitting-from p fs ns some few fewer front functions natives sum =
-    record
-      { functionRoom = fs
-      ; nativeRoom = ns
-      ; someFunctions = some
-      ; fewFunctions = few
-      ; fewNatives = fewer
-      ; front = front
-      ; functions = functions
-      ; natives = natives
-      ; formed = functions-formed (now (p .bytes)) (take (p .«function_count») (p .functions)) (functions .each) (functions .lettered)
-      ; nativesFormed = natives-formed (now (p .bytes)) (take (p .«native_count») (p .natives)) (natives .each) (natives .lettered)
-      ; codeSum = sum
-      ; functionCount = mapped-length (functionOf (now (p .bytes))) (p .functions) (p .«function_count») (omega arith)
-      ; nativeCount = mapped-length (nativeOf (now (p .bytes))) (p .natives) (p .«native_count») (omega arith)
-      ; integerCount = length-map-counting (λ k. four (now (p .bytes)) (p .integers + 4 * k)) 0 (p .«integer_count»)
-      ; stringSize = bytes-length (now (p .bytes)) (p .strings) (p .«string_size») (front .stringsInside) }
+    record {
+      functionRoom = fs;
+      nativeRoom = ns;
+      someFunctions = some;
+      fewFunctions = few;
+      fewNatives = fewer;
+      front = front;
+      functions = functions;
+      natives = natives;
+      formed = functions-formed (now (p .bytes)) (take (p .«function_count») (p .functions)) (functions .each) (functions .lettered);
+      nativesFormed = natives-formed (now (p .bytes)) (take (p .«native_count») (p .natives)) (natives .each) (natives .lettered);
+      codeSum = sum;
+      functionCount = mapped-length (functionOf (now (p .bytes))) (p .functions) (p .«function_count») (omega arith);
+      nativeCount = mapped-length (nativeOf (now (p .bytes))) (p .natives) (p .«native_count») (omega arith);
+      integerCount = length-map-counting (λ k. four (now (p .bytes)) (p .integers + 4 * k)) 0 (p .«integer_count»);
+      stringSize = bytes-length (now (p .bytes)) (p .strings) (p .«string_size») (front .stringsInside);
+    }

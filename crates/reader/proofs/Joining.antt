@@ -86,9 +86,10 @@ pub functions-known : (bs : List ℕ) (fs gs : List Function) (n : ℕ) → 0 < 
     kindOf (byte bs (getD gs 0 noFunctionRecord .kinds)) ≡ Word → FunctionsKnown bs (take n gs)
 functions-known bs fs gs n l k h e each lettered gives =
     let m : length (take n gs) ≡ n = length-take-le n gs k in
-    record
-      { each = each
-      ; lettered = lettered
-      ; little = omega (arith, code-same bs (take n gs) ∙ ap codeBytes e, h .little)
-      ; takes = main-takes bs (take n gs) (main-kept bs (take n gs) (take n fs) e (h .main))
-      ; gives = main-gives bs (take n gs) (omega arith) (ap (λ f. kindOf (byte bs (f .kinds))) (getD-take n gs 0 noFunctionRecord l) ∙ gives) }
+    record {
+      each = each;
+      lettered = lettered;
+      little = omega (arith, code-same bs (take n gs) ∙ ap codeBytes e, h .little);
+      takes = main-takes bs (take n gs) (main-kept bs (take n gs) (take n fs) e (h .main));
+      gives = main-gives bs (take n gs) (omega arith) (ap (λ f. kindOf (byte bs (f .kinds))) (getD-take n gs 0 noFunctionRecord l) ∙ gives);
+    }

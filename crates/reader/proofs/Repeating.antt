@@ -36,13 +36,13 @@ module _ {A : Type 0} (step : ℕ → Read (List A) → Out (Read A)) (n i : ℕ
       onwards step n i found p ≡ onwards step n (i + 1) more q
   series-more x q more l w e =
       repeat-more (oneMore step) n i (record { value = found; after = p }) (record { value = found ++ x ∷ []; after = q }) l
-        (ap (λ o. bind o (λ r. good (record { value = found ++ r .value ∷ []; after = r .after }))) e) ∙
+      (ap (λ o. bind o (λ r. good (record { value = found ++ r .value ∷ []; after = r .after }))) e) ∙
       ap (λ found. onwards step n (i + 1) found q) w
 
   pub series-fault : (f : Fault) → i < n → step i (record { value = found; after = p }) ≡ bad f → onwards step n i found p ≡ bad f
   series-fault f l e =
       repeat-fault (oneMore step) n i (record { value = found; after = p }) f l
-        (ap (λ o. bind o (λ r. good (record { value = found ++ r .value ∷ []; after = r .after }))) e)
+      (ap (λ o. bind o (λ r. good (record { value = found ++ r .value ∷ []; after = r .after }))) e)
 
   pub series-end : (all : List A) → n ≤ i → found ≡ all → onwards step n i found p ≡ good (record { value = all; after = p })
   series-end all l w =

@@ -74,10 +74,11 @@ module _ (bs : List ℕ) (fs : List Function) (i size : ℕ) (f : Function) (l :
       FunctionsFit bs (take (i + 1) (set fs i f))
   functions-more h s k few main =
       let n : length (take i fs) ≡ i = length-take-le i fs (omega arith) in
-      record
-        { each = filled-all (FunctionFits bs) fs i f l (h .each) k
-        ; little = omega (arith, code-more s k)
-        ; main = subst (λ gs. getD gs 0 noFunctionRecord .arguments ≡ 0) (sym (take-more-set fs i f l)) (main-push (take i fs) f (h .main) (λ z. main (sym n ∙ z))) }
+      record {
+        each = filled-all (FunctionFits bs) fs i f l (h .each) k;
+        little = omega (arith, code-more s k);
+        main = subst (λ gs. getD gs 0 noFunctionRecord .arguments ≡ 0) (sym (take-more-set fs i f l)) (main-push (take i fs) f (h .main) (λ z. main (sym n ∙ z)));
+      }
 
 -- ## The sheet: an entry is written again, with the place of its letters
 

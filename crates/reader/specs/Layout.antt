@@ -129,10 +129,10 @@ signatureFrom bs p n = record { arguments = map kindOf (bytesFrom bs (p + 1) n);
 abbrev pub recordAt : List ℕ → ℕ → Bool → ℕ → ℕ → Out (Read Signature)
 recordAt bs sort main arguments p =
     test (leb (p + (5 + arguments)) (length bs) &&
-         (eqb (twoLow bs p) (3 + arguments) &&
-         (eqb (twoLow bs (p + 2)) sort &&
-         (areLetters bs (p + 4) (1 + arguments) &&
-         (not main || eqb (byte bs (p + 4)) 0x77))))) 15 p
+    (eqb (twoLow bs p) (3 + arguments) &&
+    (eqb (twoLow bs (p + 2)) sort &&
+    (areLetters bs (p + 4) (1 + arguments) &&
+    (not main || eqb (byte bs (p + 4)) 0x77))))) 15 p
     (good (record { value = signatureFrom bs (p + 4) arguments; after = p + (5 + arguments) }))
 
 -- n records, for functions or natives of these argument counts

@@ -42,11 +42,12 @@ integersFrom bs p n = map (λ k. four bs (p + 4 * k)) (counting 0 n)
 
 abbrev pub programOf : Package → Program
 programOf p =
-    record
-      { integers = integersFrom (now (p .bytes)) (p .integers) (p .«integer_count»)
-      ; strings = bytesFrom (now (p .bytes)) (p .strings) (p .«string_size»)
-      ; functions = map (functionOf (now (p .bytes))) (take (p .«function_count») (p .functions))
-      ; natives = map (nativeOf (now (p .bytes))) (take (p .«native_count») (p .natives)) }
+    record {
+      integers = integersFrom (now (p .bytes)) (p .integers) (p .«integer_count»);
+      strings = bytesFrom (now (p .bytes)) (p .strings) (p .«string_size»);
+      functions = map (functionOf (now (p .bytes))) (take (p .«function_count») (p .functions));
+      natives = map (nativeOf (now (p .bytes))) (take (p .«native_count») (p .natives));
+    }
 
 -- function i and native i of a program; past the end of their lists stands one with nothing in it
 abbrev pub noFunction : program.Function

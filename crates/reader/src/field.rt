@@ -4,10 +4,17 @@ ghost use Prim.Native.Nat.{ℕ, _+_, _≤_};
 ghost use lib.ListN.{length};
 ghost use Rattle.std.specs.Vec.{made};
 ghost use Rattle.bytecode.specs.Outcome.{told, same};
+ghost use Rattle.bytecode.specs.declared.refusal.Refusal.the-variants.{Field};
 ghost use Rattle.reader.specs.Fields.{twoLow, bytesFrom, byteAt, twoAt, bytesAt};
-
 use bytecode::refusal::FieldFault;
 use bytecode::refusal::Refusal;
+
+// The refusal of a field or a record.
+pub(crate) fn refused(fault: FieldFault, offset: usize) -> Refusal
+    ensures { λ r. ⌜ r ≡ Field fault offset ⌝ }
+{
+    Refusal::Field { fault, offset }
+}
 
 // Whether a field of so many bytes stands at an offset.
 pub(crate) fn block(bytes: &[u8], offset: usize, size: usize) -> Result<(), Refusal>
@@ -16,7 +23,7 @@ pub(crate) fn block(bytes: &[u8], offset: usize, size: usize) -> Result<(), Refu
     ensures room { λ r. ⌜ made r (λ _. offset + size ≤ length (now (bytes .entry))) ⌝ }
 {
     if size > bytes.len() - offset {
-        return Err(Refusal::Field { fault: FieldFault::Cut, offset });
+        return Err(refused(FieldFault::Cut, offset));
     }
     Ok(())
 }
@@ -27,7 +34,7 @@ pub(crate) fn byte(bytes: &[u8], offset: usize) -> Result<u8, Refusal>
     ensures room { λ r. ⌜ made r (λ _. offset + 1 ≤ length (now (bytes .entry))) ⌝ }
 {
     if bytes.len() - offset < 1 {
-        return Err(Refusal::Field { fault: FieldFault::Cut, offset });
+        return Err(refused(FieldFault::Cut, offset));
     }
     Ok(bytes[offset])
 }
@@ -39,7 +46,7 @@ pub(crate) fn pair(bytes: &[u8], offset: usize) -> Result<u16, Refusal>
     ensures room { λ r. ⌜ made r (λ _. offset + 2 ≤ length (now (bytes .entry))) ⌝ }
 {
     if bytes.len() - offset < 2 {
-        return Err(Refusal::Field { fault: FieldFault::Cut, offset });
+        return Err(refused(FieldFault::Cut, offset));
     }
     Ok(bytes[offset] as u16 * 256 + bytes[offset + 1] as u16)
 }

@@ -1,17 +1,17 @@
 // Reads a package and its sheet, field by field.
 ghost use mathlib.Core.Path.{_≡_};
-ghost use Prim.Native.Nat.{ℕ, _+_, _*_, _-_, _<_, _≤_};
+ghost use Prim.Native.Nat.{ℕ, _+_, _≤_};
 ghost use lib.ListN.{length};
 ghost use Rattle.std.specs.Vec.{made};
 ghost use Rattle.bytecode.specs.Outcome.{told, same};
-ghost use Rattle.reader.specs.Fields.{byte as byteOf, bytesFrom};
+ghost use Rattle.reader.specs.Fields.{bytesFrom};
 ghost use Rattle.reader.specs.Layout.{magicAt, frontAt, packageAt};
 ghost use Rattle.reader.specs.View.{integersFrom, programOf, FrontFits, Fitting};
 ghost use Rattle.reader.specs.Samples.{Samples};
-
 use bytecode::refusal::FieldFault;
 use bytecode::refusal::Refusal;
 use field::pair;
+use field::refused;
 use package::Function;
 use package::Native;
 use package::Package;
@@ -22,8 +22,11 @@ mod pool;
 mod sheet;
 
 const LENGTH_LIMIT: usize = 16384;
+
 const VERSION: u16 = 0x0017;
+
 const FUNCTION_LIMIT: usize = 64;
+
 const NATIVE_LIMIT: usize = 32;
 
 // The first four bytes; answers the offset after them.
@@ -33,8 +36,8 @@ fn read_magic(bytes: &[u8]) -> Result<usize, Refusal>
 {
     match bytes {
         [0xC0, 0xC0, 0xFF, 0xEE, rest @ ..] => Ok(bytes.len() - rest.len()),
-        [_, _, _, _, ..] => Err(Refusal::Field { fault: FieldFault::Magic, offset: 0 }),
-        _ => Err(Refusal::Field { fault: FieldFault::Cut, offset: 0 }),
+        [_, _, _, _, ..] => Err(refused(FieldFault::Magic, 0)),
+        _ => Err(refused(FieldFault::Cut, 0)),
     }
 }
 
@@ -53,12 +56,12 @@ fn read_front(bytes: &[u8]) -> Result<Front, Refusal>
     ensures fits { λ r. ⌜ made r (λ f. FrontFits (now (bytes .entry)) (f .integers) (f .«integer_count») (f .strings) (f .«string_size»)) ⌝ }
 {
     if bytes.len() > LENGTH_LIMIT {
-        return Err(Refusal::Field { fault: FieldFault::Limit, offset: 0 });
+        return Err(refused(FieldFault::Limit, 0));
     }
     let version_offset = read_magic(bytes)?;
     let version = pair(bytes, version_offset)?;
     if version != VERSION {
-        return Err(Refusal::Field { fault: FieldFault::Version, offset: version_offset });
+        return Err(refused(FieldFault::Version, version_offset));
     }
     let integer_count = pair(bytes, version_offset + 2)? as usize;
     let integers = version_offset + 4;
@@ -66,15 +69,30 @@ fn read_front(bytes: &[u8]) -> Result<Front, Refusal>
     let string_size = pair(bytes, after)? as usize;
     let strings = after + 2;
     pool::check_strings(bytes, string_size, strings)?;
-    Ok(Front { integers, integer_count, strings, string_size })
+    Ok(Front {
+        integers,
+        integer_count,
+        strings,
+        string_size,
+    })
 }
 
 fn no_functions() -> [Function; 64] {
-    [Function { arguments: 0, variables: 0, code: 0, size: 0, kinds: 0 }; 64]
+    [Function {
+        arguments: 0,
+        variables: 0,
+        code: 0,
+        size: 0,
+        kinds: 0,
+    }; 64]
 }
 
 fn no_natives() -> [Native; 32] {
-    [Native { arguments: 0, index: 0, kinds: 0 }; 32]
+    [Native {
+        arguments: 0,
+        index: 0,
+        kinds: 0,
+    }; 32]
 }
 
 /// Reads a package with its sheet: where everything lies in it, or the first field or record that is wrong.
@@ -87,17 +105,24 @@ pub fn read_package<'a>(bytes: &'a [u8]) -> Result<Package<'a>, Refusal>
     let functions_offset = front.strings + front.string_size;
     let function_count = pair(bytes, functions_offset)? as usize;
     if function_count == 0 || function_count > FUNCTION_LIMIT {
-        return Err(Refusal::Field { fault: FieldFault::Limit, offset: functions_offset });
+        return Err(refused(FieldFault::Limit, functions_offset));
     }
     let mut functions = no_functions();
     let pool = pool::read_functions(bytes, function_count, functions_offset + 2, &mut functions)?;
     let native_count = pair(bytes, pool.after)? as usize;
     if native_count > NATIVE_LIMIT {
-        return Err(Refusal::Field { fault: FieldFault::Limit, offset: pool.after });
+        return Err(refused(FieldFault::Limit, pool.after));
     }
     let mut natives = no_natives();
     let sheet = pool::read_natives(bytes, native_count, pool.after + 2, &mut natives)?;
-    sheet::read_sheet(bytes, sheet, function_count, &mut functions, native_count, &mut natives)?;
+    sheet::read_sheet(
+        bytes,
+        sheet,
+        function_count,
+        &mut functions,
+        native_count,
+        &mut natives,
+    )?;
     Ok(Package {
         bytes,
         integers: front.integers,
@@ -112,9 +137,39 @@ pub fn read_package<'a>(bytes: &'a [u8]) -> Result<Package<'a>, Refusal>
     })
 }
 
-/// Sample packages read as they should; the contract is the claim.
-pub fn samples_stand() -> u8
-    ensures { λ _. ⌜ Samples ⌝ }
+/// The package of a program that answers six times seven. The contract says what it and changes of it read to.
+pub fn sample_package() -> [u8; 29]
+    ensures { λ r. ⌜ Samples r ⌝ }
 {
-    0
+    [
+        0xC0,
+        0xC0,
+        0xFF,
+        0xEE,
+        0x00,
+        0x17,
+        0x00,
+        0x00,
+        0x00,
+        0x00,
+        0x00,
+        0x01,
+        0x00,
+        0x00,
+        0x00,
+        0x06,
+        0x10,
+        0x06,
+        0x10,
+        0x07,
+        0x68,
+        0xB0,
+        0x00,
+        0x00,
+        0x03,
+        0x00,
+        0x01,
+        0x00,
+        0x77,
+    ]
 }

@@ -4,9 +4,8 @@ ghost use Prim.Native.Nat.{ℕ, _+_, _*_, _<_, _≤_};
 ghost use lib.ListN.{length, getD};
 ghost use Rattle.bytecode.specs.declared.kind.Kind.the-variants.{Unknown};
 ghost use Rattle.reader.specs.Fields.{byte as byteOf, four, bytesFrom};
-ghost use Rattle.reader.specs.Layout.{kindOf};
-ghost use Rattle.reader.specs.View.{functionOf, nativeOf, programOf, functionIn, nativeIn, FunctionFits, FunctionLettered, NativeFits, NativeLettered, Fitting};
-
+ghost use Rattle.reader.specs.Layout.{kindOf, signatureFrom};
+ghost use Rattle.reader.specs.View.{integersFrom, functionOf, nativeOf, programOf, functionIn, nativeIn, FunctionFits, FunctionLettered, NativeFits, NativeLettered, Fitting};
 use bytecode::kind::Kind;
 
 /// A function's pool entry, the offset of its code, and where its sheet record has the letter of its result (those of the arguments follow).
@@ -47,7 +46,29 @@ fn kind_at(bytes: &[u8], offset: usize) -> Kind
     requires { ⌜ offset < length (now bytes) ⌝ }
     ensures { λ r. ⌜ r ≡ kindOf (byteOf (now (bytes .entry)) offset) ⌝ }
 {
-    if bytes[offset] == 0x77 { Kind::Word } else { Kind::Reference }
+    if bytes[offset] == 0x77 {
+        Kind::Word
+    } else {
+        Kind::Reference
+    }
+}
+
+// The kind of one of so many arguments, behind the letter of the result.
+fn argument_at(bytes: &[u8], kinds: usize, arguments: usize, argument: usize) -> Kind
+    requires inside { ⌜ kinds + 1 + arguments ≤ length (now bytes) ⌝ }
+    requires taken { ⌜ argument < arguments ⌝ }
+    ensures { λ r. ⌜ r ≡ getD (signatureFrom (now (bytes .entry)) kinds arguments .arguments) argument Unknown ⌝ }
+{
+    kind_at(bytes, kinds + 1 + argument)
+}
+
+// One of so many integers.
+fn integer_at(bytes: &[u8], integers: usize, count: usize, index: usize) -> u32
+    requires inside { ⌜ integers + 4 * count ≤ length (now bytes) ⌝ }
+    requires counted { ⌜ index < count ⌝ }
+    ensures { λ r. ⌜ r ≡ getD (integersFrom (now (bytes .entry)) integers count) index 0 ⌝ }
+{
+    word_at(bytes, integers + 4 * index)
 }
 
 fn word_at(bytes: &[u8], offset: usize) -> u32
@@ -97,7 +118,7 @@ impl<'a> Package<'a> {
         requires inside { ⌜ index < now self .«integer_count» ⌝ }
         ensures { λ r. ⌜ r ≡ getD (programOf (now (self .entry)) .integers) index 0 ⌝ }
     {
-        word_at(self.bytes, self.integers + 4 * index)
+        integer_at(self.bytes, self.integers, self.integer_count, index)
     }
 
     /// All string bytes.
@@ -116,8 +137,8 @@ impl<'a> Package<'a> {
         ensures some { λ r. ⌜ 0 < length (now r) ⌝ }
         ensures few { λ r. ⌜ length (now r) ≤ 4096 ⌝ }
     {
-        let found = self.function_at(function);
-        part(self.bytes, found.code, found.size as usize)
+        let entry = self.function_at(function);
+        part(self.bytes, entry.code, entry.size as usize)
     }
 
     /// How many variables a function has, its arguments among them.
@@ -147,8 +168,8 @@ impl<'a> Package<'a> {
         requires taken { ⌜ argument < length (functionIn (programOf (now self)) function .signature .arguments) ⌝ }
         ensures { λ r. ⌜ r ≡ getD (functionIn (programOf (now (self .entry))) function .signature .arguments) argument Unknown ⌝ }
     {
-        let found = self.function_at(function);
-        kind_at(self.bytes, found.kinds + 1 + argument)
+        let entry = self.function_at(function);
+        argument_at(self.bytes, entry.kinds, entry.arguments as usize, argument)
     }
 
     /// The kind of what a function gives back.
@@ -157,8 +178,8 @@ impl<'a> Package<'a> {
         requires inside { ⌜ function < now self .«function_count» ⌝ }
         ensures { λ r. ⌜ r ≡ functionIn (programOf (now (self .entry))) function .signature .result ⌝ }
     {
-        let found = self.function_at(function);
-        kind_at(self.bytes, found.kinds)
+        let entry = self.function_at(function);
+        kind_at(self.bytes, entry.kinds)
     }
 
     /// The index of a native in the host's table.
@@ -188,7 +209,7 @@ impl<'a> Package<'a> {
         ensures { λ r. ⌜ r ≡ getD (nativeIn (programOf (now (self .entry))) native .signature .arguments) argument Unknown ⌝ }
     {
         let found = self.native_at(native);
-        kind_at(self.bytes, found.kinds + 1 + argument)
+        argument_at(self.bytes, found.kinds, found.arguments as usize, argument)
     }
 
     /// The kind of what a native gives back.

@@ -9,14 +9,14 @@ ghost use Rattle.bytecode.specs.Outcome.{told};
 ghost use Rattle.reader.specs.Fields.{byte as byteOf, bytesFrom};
 ghost use Rattle.reader.specs.Layout.{integersAt, stringsAt, functionAt, functionsAt, nativeAt, nativesAt, codeBytes};
 ghost use Rattle.reader.specs.View.{integersFrom, functionEntryOf, nativeEntryOf, FunctionFits, FunctionsFit, NativeFits};
-
-use bytecode::refusal::FieldFault;
-use bytecode::refusal::Refusal;
 use crate::field::block;
 use crate::field::byte;
 use crate::field::pair;
+use crate::field::refused;
 use crate::package::Function;
 use crate::package::Native;
+use bytecode::refusal::FieldFault;
+use bytecode::refusal::Refusal;
 
 // The code bytes of all functions together.
 const CODE_LIMIT: usize = 4096;
@@ -45,13 +45,18 @@ pub(crate) fn check_strings(bytes: &[u8], size: usize, offset: usize) -> Result<
 {
     block(bytes, offset, size)?;
     if size > 0 && bytes[offset + size - 1] != 0 {
-        return Err(Refusal::Field { fault: FieldFault::StringEnd, offset });
+        return Err(refused(FieldFault::StringEnd, offset));
     }
     Ok(())
 }
 
 // A function's pool entry, after functions of so many code bytes.
-fn read_function(bytes: &[u8], index: usize, offset: usize, before: usize) -> Result<Function, Refusal>
+fn read_function(
+    bytes: &[u8],
+    index: usize,
+    offset: usize,
+    before: usize,
+) -> Result<Function, Refusal>
     requires inside { ⌜ offset ≤ length (now bytes) ⌝ }
     requires few { ⌜ before ≤ 4096 ⌝ }
     ensures met { λ r. ⌜ functionAt (now (bytes .entry)) index offset before ≡ told (λ f. record { value = functionEntryOf (now (bytes .entry)) f; after = f .code + f .size }) r ⌝ }
@@ -61,19 +66,25 @@ fn read_function(bytes: &[u8], index: usize, offset: usize, before: usize) -> Re
 {
     let arguments = byte(bytes, offset)?;
     if index == 0 && arguments != 0 {
-        return Err(Refusal::Field { fault: FieldFault::Limit, offset });
+        return Err(refused(FieldFault::Limit, offset));
     }
     let variables = byte(bytes, offset + 1)?;
     if variables > 32 || variables < arguments {
-        return Err(Refusal::Field { fault: FieldFault::Limit, offset: offset + 1 });
+        return Err(refused(FieldFault::Limit, offset + 1));
     }
     let size = pair(bytes, offset + 2)?;
     if size == 0 || size as usize > CODE_LIMIT - before {
-        return Err(Refusal::Field { fault: FieldFault::Limit, offset: offset + 2 });
+        return Err(refused(FieldFault::Limit, offset + 2));
     }
     let code = offset + 4;
     block(bytes, code, size as usize)?;
-    Ok(Function { arguments, variables, code, size, kinds: 0 })
+    Ok(Function {
+        arguments,
+        variables,
+        code,
+        size,
+        kinds: 0,
+    })
 }
 
 // Where the functions end, and how many code bytes they have.
@@ -84,7 +95,12 @@ pub(crate) struct Functions {
 }
 
 // Reads so many functions to the front of a list.
-pub(crate) fn read_functions(bytes: &[u8], count: usize, offset: usize, list: &mut [Function; 64]) -> Result<Functions, Refusal>
+pub(crate) fn read_functions(
+    bytes: &[u8],
+    count: usize,
+    offset: usize,
+    list: &mut [Function; 64],
+) -> Result<Functions, Refusal>
     requires inside { ⌜ offset ≤ length (now bytes) ⌝ }
     requires few { ⌜ count ≤ 64 ⌝ }
     ensures met { λ r. ⌜ functionsAt (now (bytes .entry)) count offset ≡ told (λ q. record { value = map (functionEntryOf (now (bytes .entry))) (take count (now (list .exit))); after = q .after }) r ⌝ }
@@ -111,14 +127,23 @@ fn read_native(bytes: &[u8], offset: usize) -> Result<Native, Refusal>
 {
     let arguments = pair(bytes, offset)?;
     if arguments > 4 {
-        return Err(Refusal::Field { fault: FieldFault::Limit, offset });
+        return Err(refused(FieldFault::Limit, offset));
     }
     let index = pair(bytes, offset + 2)?;
-    Ok(Native { arguments, index, kinds: 0 })
+    Ok(Native {
+        arguments,
+        index,
+        kinds: 0,
+    })
 }
 
 // Reads so many natives to the front of a list, and answers the offset after them.
-pub(crate) fn read_natives(bytes: &[u8], count: usize, offset: usize, list: &mut [Native; 32]) -> Result<usize, Refusal>
+pub(crate) fn read_natives(
+    bytes: &[u8],
+    count: usize,
+    offset: usize,
+    list: &mut [Native; 32],
+) -> Result<usize, Refusal>
     requires inside { ⌜ offset ≤ length (now bytes) ⌝ }
     requires few { ⌜ count ≤ 32 ⌝ }
     ensures met { λ r. ⌜ nativesAt (now (bytes .entry)) count offset ≡ told (λ q. record { value = map nativeEntryOf (take count (now (list .exit))); after = q }) r ⌝ }

@@ -11,19 +11,21 @@ ghost use Rattle.bytecode.specs.declared.kind.Kind.the-variants.{Word};
 ghost use Rattle.reader.specs.Fields.{byte as byteOf};
 ghost use Rattle.reader.specs.Layout.{isLetter, areLetters, kindOf, signatureFrom, recordAt, functionSheetAt, functionArguments, nativeSheetAt, nativeArguments, sheetAt, codeBytes};
 ghost use Rattle.reader.specs.View.{functionEntryOf, functionSignatureOf, nativeEntryOf, nativeSignatureOf, functionOf, nativeOf, noFunctionRecord, FunctionFits, FunctionsFit, FunctionLettered, FunctionsKnown, NativeFits, NativeLettered, NativesKnown, codeSize};
-
-use bytecode::refusal::FieldFault;
-use bytecode::refusal::Refusal;
 use crate::field::pair_low;
+use crate::field::refused;
 use crate::package::Function;
 use crate::package::Native;
+use bytecode::refusal::FieldFault;
+use bytecode::refusal::Refusal;
 
 // The letters of kinds in a sheet.
 const WORD: u8 = 0x77;
+
 const REFERENCE: u8 = 0x61;
 
 // The number of a record's sort.
 const FUNCTION: usize = 1;
+
 const NATIVE: usize = 2;
 
 fn letter(byte: u8) -> bool
@@ -46,7 +48,13 @@ fn letters(bytes: &[u8], offset: usize, count: usize) -> bool
 }
 
 // A record of a sort for so many arguments, of main or not; answers where its letters stand.
-fn read_record(bytes: &[u8], sort: usize, main: bool, arguments: usize, offset: usize) -> Result<usize, Refusal>
+fn read_record(
+    bytes: &[u8],
+    sort: usize,
+    main: bool,
+    arguments: usize,
+    offset: usize,
+) -> Result<usize, Refusal>
     requires inside { ⌜ offset ≤ length (now bytes) ⌝ }
     requires few { ⌜ arguments ≤ 32 ⌝ }
     ensures met { λ r. ⌜ recordAt (now (bytes .entry)) sort main arguments offset ≡ told (λ q. record { value = signatureFrom (now (bytes .entry)) q arguments; after = q + 1 + arguments }) r ⌝ }
@@ -54,23 +62,28 @@ fn read_record(bytes: &[u8], sort: usize, main: bool, arguments: usize, offset: 
     ensures gives { λ r. ⌜ made r (λ q. (main ≡ true → kindOf (byteOf (now (bytes .entry)) q) ≡ Word)) ⌝ }
 {
     if bytes.len() - offset < 5 + arguments {
-        return Err(Refusal::Field { fault: FieldFault::Sheet, offset });
+        return Err(refused(FieldFault::Sheet, offset));
     }
     if pair_low(bytes, offset) != 3 + arguments || pair_low(bytes, offset + 2) != sort {
-        return Err(Refusal::Field { fault: FieldFault::Sheet, offset });
+        return Err(refused(FieldFault::Sheet, offset));
     }
     let kinds = offset + 4;
     if !letters(bytes, kinds, 1 + arguments) {
-        return Err(Refusal::Field { fault: FieldFault::Sheet, offset });
+        return Err(refused(FieldFault::Sheet, offset));
     }
     if main && bytes[kinds] != WORD {
-        return Err(Refusal::Field { fault: FieldFault::Sheet, offset });
+        return Err(refused(FieldFault::Sheet, offset));
     }
     Ok(kinds)
 }
 
 // Reads the records of so many functions, and sets where the letters of each stand.
-pub(crate) fn read_function_sheet(bytes: &[u8], count: usize, offset: usize, list: &mut [Function; 64]) -> Result<usize, Refusal>
+pub(crate) fn read_function_sheet(
+    bytes: &[u8],
+    count: usize,
+    offset: usize,
+    list: &mut [Function; 64],
+) -> Result<usize, Refusal>
     requires inside { ⌜ offset ≤ length (now bytes) ⌝ }
     requires few { ⌜ count ≤ 64 ⌝ }
     requires fit { ⌜ All (FunctionFits (now bytes)) (take count (now list)) ⌝ }
@@ -93,7 +106,12 @@ pub(crate) fn read_function_sheet(bytes: &[u8], count: usize, offset: usize, lis
 }
 
 // Reads the records of so many natives, and sets where the letters of each stand.
-pub(crate) fn read_native_sheet(bytes: &[u8], count: usize, offset: usize, list: &mut [Native; 32]) -> Result<usize, Refusal>
+pub(crate) fn read_native_sheet(
+    bytes: &[u8],
+    count: usize,
+    offset: usize,
+    list: &mut [Native; 32],
+) -> Result<usize, Refusal>
     requires inside { ⌜ offset ≤ length (now bytes) ⌝ }
     requires few { ⌜ count ≤ 32 ⌝ }
     requires fit { ⌜ All NativeFits (take count (now list)) ⌝ }
@@ -115,7 +133,14 @@ pub(crate) fn read_native_sheet(bytes: &[u8], count: usize, offset: usize, list:
 }
 
 // Reads the whole sheet of so many functions and natives, with which the package ends.
-pub(crate) fn read_sheet(bytes: &[u8], offset: usize, function_count: usize, functions: &mut [Function; 64], native_count: usize, natives: &mut [Native; 32]) -> Result<(), Refusal>
+pub(crate) fn read_sheet(
+    bytes: &[u8],
+    offset: usize,
+    function_count: usize,
+    functions: &mut [Function; 64],
+    native_count: usize,
+    natives: &mut [Native; 32],
+) -> Result<(), Refusal>
     requires inside { ⌜ offset ≤ length (now bytes) ⌝ }
     requires some { ⌜ 0 < «function_count» ⌝ }
     requires fewFunctions { ⌜ «function_count» ≤ 64 ⌝ }
@@ -130,7 +155,7 @@ pub(crate) fn read_sheet(bytes: &[u8], offset: usize, function_count: usize, fun
     let native_sheet = read_function_sheet(bytes, function_count, offset, functions)?;
     let end = read_native_sheet(bytes, native_count, native_sheet, natives)?;
     if end != bytes.len() {
-        return Err(Refusal::Field { fault: FieldFault::Sheet, offset: end });
+        return Err(refused(FieldFault::Sheet, end));
     }
     Ok(())
 }

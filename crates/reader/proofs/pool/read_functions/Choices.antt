@@ -10,6 +10,6 @@ use Rattle.reader.proofs.pool.read_functions.Given as given
 abbrev pub Inv-loop-i : given.InvT-loop-i
 Inv-loop-i l =
     (functionsAt (l .bytes) (l .count) (l .offset) ≡
-      onwards (λ i s. functionAt (l .bytes) i (s .after) (codeBytes (s .value))) (l .count) (l .i) (map (functionEntryOf (l .bytes)) (take (l .i) (l .list))) (l .after)) ×
+    onwards (λ i s. functionAt (l .bytes) i (s .after) (codeBytes (s .value))) (l .count) (l .i) (map (functionEntryOf (l .bytes)) (take (l .i) (l .list))) (l .after)) ×
     (l .after ≤ length (l .bytes)) × FunctionsFit (l .bytes) (take (l .i) (l .list)) ×
     (codeBytes (map (functionEntryOf (l .bytes)) (take (l .i) (l .list))) ≡ l .code-size) × (length (l .list) ≡ 64)

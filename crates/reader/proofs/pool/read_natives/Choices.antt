@@ -11,5 +11,5 @@ use Rattle.reader.proofs.pool.read_natives.Given as given
 abbrev pub Inv-loop-i : given.InvT-loop-i
 Inv-loop-i l =
     (nativesAt (l .bytes) (l .count) (l .offset) ≡
-      onwards (λ i s. nativeAt (l .bytes) (s .after)) (l .count) (l .i) (map nativeEntryOf (take (l .i) (l .list))) (l .after)) ×
+    onwards (λ i s. nativeAt (l .bytes) (s .after)) (l .count) (l .i) (map nativeEntryOf (take (l .i) (l .list))) (l .after)) ×
     (l .after ≤ length (l .bytes)) × All NativeFits (take (l .i) (l .list)) × (length (l .list) ≡ 32)

@@ -14,8 +14,8 @@ use Rattle.reader.proofs.sheet.read_function_sheet.Given as given
 abbrev pub Inv-loop-i : given.InvT-loop-i
 Inv-loop-i l =
     (functionSheetAt (l .bytes) (l .count) (map functionArguments (map (functionEntryOf (l .bytes)) (take (l .count) (l .entry .list)))) (l .offset) ≡
-      onwards (λ i s. recordAt (l .bytes) 1 (eqb i 0) (getD (map functionArguments (map (functionEntryOf (l .bytes)) (take (l .count) (l .entry .list)))) i 0) (s .after))
-        (l .count) (l .i) (map (functionSignatureOf (l .bytes)) (take (l .i) (l .list))) (l .after)) ×
+    onwards (λ i s. recordAt (l .bytes) 1 (eqb i 0) (getD (map functionArguments (map (functionEntryOf (l .bytes)) (take (l .count) (l .entry .list)))) i 0) (s .after))
+    (l .count) (l .i) (map (functionSignatureOf (l .bytes)) (take (l .i) (l .list))) (l .after)) ×
     (l .after ≤ length (l .bytes)) ×
     (map (functionEntryOf (l .bytes)) (take (l .count) (l .list)) ≡ map (functionEntryOf (l .bytes)) (take (l .count) (l .entry .list))) ×
     All (FunctionFits (l .bytes)) (take (l .count) (l .list)) ×

@@ -33,39 +33,42 @@ pub returns-in-Break-kinds : need.returns-in-Break-kinds
 returns-in-Break-kinds c =
     let p = err-from-errBy (c .from-residual .result) (c .from-residual .ensures .1) in
     rw (p .1, p .2)
-    (record
-      { met =
+    (record {
+      met =
           c .loop-i .inv .0 ∙
           series-fault (step (c .args .bytes .now) (c .args .count) (c .args .list .now)) (c .args .count) (c .loop-i .i) _ _ _ (c .loop-i-test .taken)
-            (asked (c .args .bytes .now) (c .args .list .now) (c .loop-i .list) (c .args .count) (c .loop-i .i) (c .loop-i .after) (c .loop-i .inv .5) (c .pre .few) (c .loop-i-test .taken) (c .loop-i .inv .2) _ (c .in-Break-kinds .ensures tt .met))
-      ; room = tt
-      ; kept = c .loop-i .inv .2
-      ; fit = c .loop-i .inv .3
-      ; lettered = tt })
+          (asked (c .args .bytes .now) (c .args .list .now) (c .loop-i .list) (c .args .count) (c .loop-i .i) (c .loop-i .after) (c .loop-i .inv .5) (c .pre .few) (c .loop-i-test .taken) (c .loop-i .inv .2) _ (c .in-Break-kinds .ensures tt .met));
+      room = tt;
+      kept = c .loop-i .inv .2;
+      fit = c .loop-i .inv .3;
+      lettered = tt;
+    })
 
 pub loop-i-again : need.loop-i-again
 loop-i-again c =
     let k : c .loop-i .i < length (c .loop-i .list) = omega (arith, c .loop-i .inv .5) in
-    let f = all-at NativeFits (c .loop-i .list) (c .args .count) (c .loop-i .i) noNativeRecord (omega (arith, c .loop-i .inv .5)) (c .loop-i-test .taken) (c .loop-i .inv .3) in
-    ( c .loop-i .inv .0 ∙
-      series-more (step (c .args .bytes .now) (c .args .count) (c .args .list .now)) (c .args .count) (c .loop-i .i) _ _ _ _ _ (c .loop-i-test .taken)
-        (filled-more (nativeSignatureOf (c .args .bytes .now)) (c .loop-i .list) (c .loop-i .i) _ k)
-        (asked (c .args .bytes .now) (c .args .list .now) (c .loop-i .list) (c .args .count) (c .loop-i .i) (c .loop-i .after) (c .loop-i .inv .5) (c .pre .few) (c .loop-i-test .taken) (c .loop-i .inv .2) _ (c .in-Continue-kinds .ensures tt .met))
-    , c .in-Continue-kinds .ensures tt .room
-    , kept-map nativeEntryOf (c .loop-i .list) _ (c .args .count) (c .loop-i .i) _ noNativeRecord (c .loop-i-test .taken) refl (c .loop-i .inv .2)
-    , kept-all NativeFits (c .loop-i .list) (c .args .count) (c .loop-i .i) _ (c .loop-i-test .taken) f (c .loop-i .inv .3)
-    , filled-all (NativeLettered (c .args .bytes .now)) (c .loop-i .list) (c .loop-i .i) _ k (c .loop-i .inv .4) (c .in-Continue-kinds .ensures tt .room)
-    , simp length-set (c .loop-i .inv .5))
+    let f = all-at NativeFits (c .loop-i .list) (c .args .count) (c .loop-i .i) noNativeRecord (omega (arith, c .loop-i .inv .5)) (c .loop-i-test .taken) (c .loop-i .inv .3) in (
+      c .loop-i .inv .0 ∙
+          series-more (step (c .args .bytes .now) (c .args .count) (c .args .list .now)) (c .args .count) (c .loop-i .i) _ _ _ _ _ (c .loop-i-test .taken)
+          (filled-more (nativeSignatureOf (c .args .bytes .now)) (c .loop-i .list) (c .loop-i .i) _ k)
+          (asked (c .args .bytes .now) (c .args .list .now) (c .loop-i .list) (c .args .count) (c .loop-i .i) (c .loop-i .after) (c .loop-i .inv .5) (c .pre .few) (c .loop-i-test .taken) (c .loop-i .inv .2) _ (c .in-Continue-kinds .ensures tt .met)),
+      c .in-Continue-kinds .ensures tt .room,
+      kept-map nativeEntryOf (c .loop-i .list) _ (c .args .count) (c .loop-i .i) _ noNativeRecord (c .loop-i-test .taken) refl (c .loop-i .inv .2),
+      kept-all NativeFits (c .loop-i .list) (c .args .count) (c .loop-i .i) _ (c .loop-i-test .taken) f (c .loop-i .inv .3),
+      filled-all (NativeLettered (c .args .bytes .now)) (c .loop-i .list) (c .loop-i .i) _ k (c .loop-i .inv .4) (c .in-Continue-kinds .ensures tt .room),
+      simp length-set (c .loop-i .inv .5),
+    )
 
 pub returns : need.returns
 returns c =
     let e : c .loop-i .i ≡ c .args .count = omega arith in
-    record
-      { met =
+    record {
+      met =
           c .loop-i .inv .0 ∙
           series-end (step (c .args .bytes .now) (c .args .count) (c .args .list .now)) (c .args .count) (c .loop-i .i) _ _ _ (c .loop-i-test .left)
-            (ap (λ n. map (nativeSignatureOf (c .args .bytes .now)) (take n (c .loop-i .list))) e)
-      ; room = c .loop-i .inv .1
-      ; kept = c .loop-i .inv .2
-      ; fit = c .loop-i .inv .3
-      ; lettered = subst (λ n. All (NativeLettered (c .args .bytes .now)) (take n (c .loop-i .list))) e (c .loop-i .inv .4) }
+          (ap (λ n. map (nativeSignatureOf (c .args .bytes .now)) (take n (c .loop-i .list))) e);
+      room = c .loop-i .inv .1;
+      kept = c .loop-i .inv .2;
+      fit = c .loop-i .inv .3;
+      lettered = subst (λ n. All (NativeLettered (c .args .bytes .now)) (take n (c .loop-i .list))) e (c .loop-i .inv .4);
+    }

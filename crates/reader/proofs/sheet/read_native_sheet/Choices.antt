@@ -12,8 +12,8 @@ use Rattle.reader.proofs.sheet.read_native_sheet.Given as given
 abbrev pub Inv-loop-i : given.InvT-loop-i
 Inv-loop-i l =
     (nativeSheetAt (l .bytes) (l .count) (map nativeArguments (map nativeEntryOf (take (l .count) (l .entry .list)))) (l .offset) ≡
-      onwards (λ i s. recordAt (l .bytes) 2 false (getD (map nativeArguments (map nativeEntryOf (take (l .count) (l .entry .list)))) i 0) (s .after))
-        (l .count) (l .i) (map (nativeSignatureOf (l .bytes)) (take (l .i) (l .list))) (l .after)) ×
+    onwards (λ i s. recordAt (l .bytes) 2 false (getD (map nativeArguments (map nativeEntryOf (take (l .count) (l .entry .list)))) i 0) (s .after))
+    (l .count) (l .i) (map (nativeSignatureOf (l .bytes)) (take (l .i) (l .list))) (l .after)) ×
     (l .after ≤ length (l .bytes)) ×
     (map nativeEntryOf (take (l .count) (l .list)) ≡ map nativeEntryOf (take (l .count) (l .entry .list))) ×
     All NativeFits (take (l .count) (l .list)) ×

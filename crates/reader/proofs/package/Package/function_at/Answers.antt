@@ -13,8 +13,9 @@ returns c =
     let n = c .args .self .now .«function_count» in
     let met = front-at (functionOf bs) fs n (c .args .function) noFunctionRecord noFunction (omega arith) (c .pre .inside) in
     let lettered = all-at (FunctionLettered bs) fs n (c .args .function) noFunctionRecord (omega arith) (c .pre .inside) (c .pre .fitting .functions .lettered) in
-    record
-      { met = met
-      ; fits = all-at (FunctionFits bs) fs n (c .args .function) noFunctionRecord (omega arith) (c .pre .inside) (c .pre .fitting .functions .each)
-      ; lettered = lettered
-      ; takes = ap (λ f. length (f .signature .arguments)) met ∙ kinds-length bs _ _ lettered }
+    record {
+      met = met;
+      fits = all-at (FunctionFits bs) fs n (c .args .function) noFunctionRecord (omega arith) (c .pre .inside) (c .pre .fitting .functions .each);
+      lettered = lettered;
+      takes = ap (λ f. length (f .signature .arguments)) met ∙ kinds-length bs _ _ lettered;
+    }

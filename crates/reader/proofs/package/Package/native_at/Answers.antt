@@ -13,8 +13,9 @@ returns c =
     let n = c .args .self .now .«native_count» in
     let met = front-at (nativeOf bs) fs n (c .args .native) noNativeRecord noNative (omega arith) (c .pre .inside) in
     let lettered = all-at (NativeLettered bs) fs n (c .args .native) noNativeRecord (omega arith) (c .pre .inside) (c .pre .fitting .natives .lettered) in
-    record
-      { met = met
-      ; fits = all-at NativeFits fs n (c .args .native) noNativeRecord (omega arith) (c .pre .inside) (c .pre .fitting .natives .each)
-      ; lettered = lettered
-      ; takes = ap (λ f. length (f .signature .arguments)) met ∙ kinds-length bs _ _ lettered }
+    record {
+      met = met;
+      fits = all-at NativeFits fs n (c .args .native) noNativeRecord (omega arith) (c .pre .inside) (c .pre .fitting .natives .each);
+      lettered = lettered;
+      takes = ap (λ f. length (f .signature .arguments)) met ∙ kinds-length bs _ _ lettered;
+    }
