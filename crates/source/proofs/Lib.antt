@@ -1,0 +1,5 @@
+mod Answering
+mod Characters
+mod Loading
+mod Offsets
+mod Passing
