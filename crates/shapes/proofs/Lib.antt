@@ -1,0 +1,4 @@
+pub mod Narrowing
+pub mod Stacks
+pub mod Joining
+pub mod Acting

@@ -1,0 +1,5 @@
+pub mod Flows
+pub mod Acting
+pub mod Fresh
+pub mod Swept
+pub mod Checking
