@@ -53,7 +53,8 @@ stopWith n = Reply.Stop (record { code = n })
 -- ## What a host is
 
 -- A make of hosts, whose states are S: its signature for a table index, if any; and in each state what it replies to a call
--- and which state it is in then. Nothing else is passed in, so nothing else matters.
+-- and which state it is in then. Nothing else is passed in, so nothing else matters. Two hosts are twins where they are of one
+-- make and in equal states.
 pub record Host (S : Type 0) : Type 0 where
   pub signs : ℕ → Option Signature
   pub replies : S → Call → Reply
