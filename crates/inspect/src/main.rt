@@ -1,7 +1,10 @@
-// Loads hex text from standard input, and prints how many bytes there are and a dump of them, or why there are none.
+// Loads hex text from standard input, and prints how many bytes there are, a dump of them, and what the package holds that they are;
+// or why there is none.
 ghost use mathlib.Core.Path.{_≡_};
 ghost use Rattle.source.specs.Hex.{hexText};
 ghost use Rattle.source.specs.Load.{loaded};
+use listing::list;
+use reader::read_package;
 use source::hex::HexText;
 use source::hex::HexTextSource;
 use source::hex::Position;
@@ -11,6 +14,8 @@ use source::loader::LoadFault;
 use source::loader::load;
 use std::io;
 use std::io::Read;
+
+mod listing;
 
 // Loads the bytes that `text` means to `buffer`.
 fn load_text(text: &[u8], buffer: &mut [u8]) -> Result<usize, LoadFault<Position, TextFault>>
@@ -33,6 +38,11 @@ fn dump(rt: &LibcRuntime, bytes: &[u8]) -> io::Result<()> {
     Ok(())
 }
 
+fn refused(rt: &LibcRuntime, shown: (u8, usize, usize)) -> io::Result<()> {
+    let (number, first, second) = shown;
+    println!(rt, "refused {number} {first} {second}")
+}
+
 fn main(rt: LibcRuntime) -> io::Result<()> {
     let mut text = Vec::new(rt.alloc());
     rt.stdin().read_to_end(&mut text)?;
@@ -41,11 +51,12 @@ fn main(rt: LibcRuntime) -> io::Result<()> {
         Ok(count) => {
             println!(rt, "loaded {count}")?;
             buffer.truncate(count);
-            dump(&rt, &buffer)
         }
-        Err(fault) => {
-            let (number, line, column) = fault.shown();
-            println!(rt, "refused {number} {line} {column}")
-        }
+        Err(fault) => return refused(&rt, fault.shown()),
+    }
+    dump(&rt, &buffer)?;
+    match read_package(&buffer) {
+        Ok(package) => list(&rt, &package),
+        Err(refusal) => refused(&rt, refusal.shown()),
     }
 }
