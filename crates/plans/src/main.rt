@@ -1,6 +1,7 @@
 // Checks a package given as hex text on standard input, and prints the shape of each start that has one: its function and place,
 // the kinds on the stack from the bottom up and of each variable (w word, a reference, - none; a dot where there are none).
 // A package that is not accepted is refused as by `verdict`.
+ghost use Rattle.verifier.specs.Checking.{Checked};
 use bytecode::kind::Kind;
 use shapes::table::ShapeMark;
 use shapes::table::ShapeRecord;
@@ -49,7 +50,9 @@ fn print_plan(rt: &LibcRuntime, function: usize, variables: usize, records: &[Sh
     Ok(())
 }
 
-fn print_plans(rt: &LibcRuntime, program: &Program, table: &[ShapeRecord]) -> io::Result<()> {
+fn print_plans(rt: &LibcRuntime, program: &Program, table: &[ShapeRecord]) -> io::Result<()>
+    requires { ⌜ Checked (now program) ⌝ }
+{
     let contents = program.contents();
     let mut rest = table;
     for function in 0..contents.function_count {
