@@ -50,8 +50,17 @@ fn measure(rt: &LibcRuntime) -> io::Result<()> {
     let sum = push_and_pop(&mut room, TURNS);
     let nanos = start.elapsed(rt)?.as_nanos() / TURNS as u128;
     println!(rt, "two pushes and two pops: {nanos} ns ({sum})")?;
-    let mut cells = [Cell { bytes: [0; 8], mark: false }; 64];
-    let mut records = [BlockRecord { start: 0, from: 0, end: 0, count: 0, size: 0 }; 4];
+    let mut cells = [Cell {
+        bytes: [0; 8],
+        mark: false,
+    }; 64];
+    let mut records = [BlockRecord {
+        start: 0,
+        from: 0,
+        end: 0,
+        count: 0,
+        size: 0,
+    }; 4];
     let start = Instant::now(rt)?;
     let sum = store_and_load(&mut cells, &mut records, TURNS);
     let nanos = start.elapsed(rt)?.as_nanos() / TURNS as u128;

@@ -168,8 +168,16 @@ pub fn decode(code: &[u8], place: usize) -> Option<Instruction>
     requires { ⌜ place < length (now code) ⌝ }
     ensures met { λ r. ⌜ r ≡ decodeAt (now (code .entry)) place ⌝ }
 {
-    let found = instruction_of(code[place], byte_or_zero(code, place + 1), byte_or_zero(code, place + 2))?;
-    if found.size() <= code.len() - place { Some(found) } else { None }
+    let found = instruction_of(
+        code[place],
+        byte_or_zero(code, place + 1),
+        byte_or_zero(code, place + 2),
+    )?;
+    if found.size() <= code.len() - place {
+        Some(found)
+    } else {
+        None
+    }
 }
 
 /// Where a branch at a place of a code goes; none where that is before the code.

@@ -41,19 +41,19 @@ module _ {S : Type 0} (host : Host S) (s : S) where
     now = reached host s past
 
     word-seen : (st : List Value) (k : ℕ → List Value → Next Conf (List Call)) (j : ℕ → List Value → Next Conf S) → ((n : ℕ) (t : List Value) → seen (k n t) ≡ j n t)
-      → seen (popWord st past k) ≡ popWord st now j
+        → seen (popWord st past k) ≡ popWord st now j
     word-seen [] k j g = refl
     word-seen (word n ∷ t) k j g = g n t
     word-seen (reference r ∷ t) k j g = refl
 
     reference-seen : (st : List Value) (k : Reference → List Value → Next Conf (List Call)) (j : Reference → List Value → Next Conf S) → ((r : Reference) (t : List Value) → seen (k r t) ≡ j r t)
-      → seen (popReference st past k) ≡ popReference st now j
+        → seen (popReference st past k) ≡ popReference st now j
     reference-seen [] k j g = refl
     reference-seen (word n ∷ t) k j g = refl
     reference-seen (reference r ∷ t) k j g = g r t
 
     any-seen : (st : List Value) (k : Value → List Value → Next Conf (List Call)) (j : Value → List Value → Next Conf S) → ((v : Value) (t : List Value) → seen (k v t) ≡ j v t)
-      → seen (popAny st past k) ≡ popAny st now j
+        → seen (popAny st past k) ≡ popAny st now j
     any-seen [] k j g = refl
     any-seen (v ∷ t) k j g = g v t
 
@@ -70,7 +70,7 @@ module _ {S : Type 0} (host : Host S) (s : S) where
     found-seen (Some a) k j g = g a
 
     took-seen : (t : Taken) (k : List Value → List Value → Next Conf (List Call)) (j : List Value → List Value → Next Conf S)
-      → ((a b : List Value) → t ≡ taken a b → seen (k a b) ≡ j a b) → seen (tookArguments t past k) ≡ tookArguments t now j
+        → ((a b : List Value) → t ≡ taken a b → seen (k a b) ≡ j a b) → seen (tookArguments t past k) ≡ tookArguments t now j
     took-seen (taken a b) k j g = g a b refl
     took-seen short k j g = refl
 
@@ -86,7 +86,7 @@ module _ {S : Type 0} (host : Host S) (s : S) where
     compared-seen (reference q) (reference r) k j g = g (sameReference q r)
 
     branch-seen : (b : Bool) (o : ℤ) (f p q : ℕ) (vs : List (Option Value)) (st : List Value) (rest : List Frame) (h : Heap)
-      → seen (branch b o f p q vs st rest h past) ≡ branch b o f p q vs st rest h now
+        → seen (branch b o f p q vs st rest h past) ≡ branch b o f p q vs st rest h now
     branch-seen false o f p q vs st rest h = refl
     branch-seen true o f p q vs st rest h = found-seen (target p o) _ _ (λ to. refl)
 
@@ -97,7 +97,7 @@ module _ {S : Type 0} (host : Host S) (s : S) where
     return-seen (reference r) (frame f p vs st ∷ rest) h = cond-seen (ltb (length st) 32) _ _ _ _ refl refl
 
   answered-seen : (past : List Call) (k : Kind) (r : Reply) (rs : List Reference) (c : Value → Next Conf (List Call)) (d : Value → Next Conf S) → ((v : Value) → seen (c v) ≡ d v)
-    → seen (answered k r rs past c) ≡ answered k r rs (reached host s past) d
+      → seen (answered k r rs past c) ≡ answered k r rs (reached host s past) d
   answered-seen past Unknown (Reply.Word n) rs c d g = refl
   answered-seen past Unknown Reply.Null rs c d g = refl
   answered-seen past Unknown (Reply.Argument j) rs c d g = refl
@@ -121,17 +121,17 @@ module _ {S : Type 0} (host : Host S) (s : S) where
         pick false e = sym (lawful .keeps (reached host s past) c e)
 
     ask-seen : (P : Program) (sizes : Sizes) (past : List Call) (n : Native) (args : List Value) (k : Value → List Call → Next Conf (List Call)) (j : Value → S → Next Conf S)
-      → ((v : Value) (qs : List Call) → seen (k v qs) ≡ j v (reached host s qs))
-      → seen (ask P (behaviour host s) sizes n args past k) ≡ ask P host sizes n args (reached host s past) j
+        → ((v : Value) (qs : List Call) → seen (k v qs) ≡ j v (reached host s qs))
+        → seen (ask P (behaviour host s) sizes n args past k) ≡ ask P host sizes n args (reached host s past) j
     ask-seen P sizes past n args k j g =
         cond-seen past (agrees (n .signature) (host .signs (n .index))) _ _ _ _
-          (subst (λ u. seen (answered (n .signature .result) (host .replies (reached host s past) (callOf P n args)) (references args) (behaviour host s .becomes past (callOf P n args)) (λ v. k v (behaviour host s .becomes past (callOf P n args))))
-              ≡ answered (n .signature .result) (host .replies (reached host s past) (callOf P n args)) (references args) u (λ v. j v u)) (reached-call past (callOf P n args))
-            (answered-seen (behaviour host s .becomes past (callOf P n args)) (n .signature .result) (host .replies (reached host s past) (callOf P n args)) (references args) _ _ (λ v. g v _)))
-          refl
+        (subst (λ u. seen (answered (n .signature .result) (host .replies (reached host s past) (callOf P n args)) (references args) (behaviour host s .becomes past (callOf P n args)) (λ v. k v (behaviour host s .becomes past (callOf P n args))))
+        ≡ answered (n .signature .result) (host .replies (reached host s past) (callOf P n args)) (references args) u (λ v. j v u)) (reached-call past (callOf P n args))
+        (answered-seen (behaviour host s .becomes past (callOf P n args)) (n .signature .result) (host .replies (reached host s past) (callOf P n args)) (references args) _ _ (λ v. g v _)))
+        refl
 
     exec-seen : (P : Program) (sizes : Sizes) (past : List Call) (i : Instruction) (f p q : ℕ) (vs : List (Option Value)) (st : List Value) (rest : List Frame) (h : Heap)
-      → seen (exec P (behaviour host s) sizes i f p q vs st rest h past) ≡ exec P host sizes i f p q vs st rest h (reached host s past)
+        → seen (exec P (behaviour host s) sizes i f p q vs st rest h past) ≡ exec P host sizes i f p q vs st rest h (reached host s past)
     unfolding exec
     exec-seen P sizes past Nop f p q vs st rest h = refl
     exec-seen P sizes past Pop f p q vs st rest h = any-seen past st _ _ (λ v t. refl)
@@ -150,10 +150,10 @@ module _ {S : Type 0} (host : Host S) (s : S) where
     exec-seen P sizes past (Goto o) f p q vs st rest h = branch-seen past true o f p q vs st rest h
     exec-seen P sizes past (Invokestatic c) f p q vs st rest h =
         found-seen past (nth (P .functions) c) _ _ (λ g. took-seen past (arguments (g .signature) st) _ _ (λ args t e. cond-seen past (ltb (length t) 32) _ _ _ _
-          (cond-seen past (ltb (suc (length rest)) (sizes .frames)) _ _ _ _ (cond-seen past (leb (reserve (Some g) + reserved P (frame f q vs t ∷ rest)) (sizes .slots)) _ _ _ _ refl refl) refl) refl))
+        (cond-seen past (ltb (suc (length rest)) (sizes .frames)) _ _ _ _ (cond-seen past (leb (reserve (Some g) + reserved P (frame f q vs t ∷ rest)) (sizes .slots)) _ _ _ _ refl refl) refl) refl))
     exec-seen P sizes past (Invokenative c) f p q vs st rest h =
         found-seen past (nth (P .natives) c) _ _ (λ n. took-seen past (arguments (n .signature) st) _ _ (λ args t e. cond-seen past (ltb (length t) 32) _ _ _ _
-          (ask-seen P sizes past n args (λ v u. resume f q vs (v ∷ t) rest h u) (λ v u. resume f q vs (v ∷ t) rest h u) (λ v qs. refl)) refl))
+        (ask-seen P sizes past n args (λ v u. resume f q vs (v ∷ t) rest h u) (λ v u. resume f q vs (v ∷ t) rest h u) (λ v qs. refl)) refl))
     exec-seen P sizes past Return f p q vs st rest h =
         found-seen past (nth (P .functions) f) _ _ (λ g. only-seen past st _ _ (λ v. cond-seen past (isKind (g .signature .result) v) _ _ _ _ (return-seen past v rest h) refl))
     exec-seen P sizes past (New b) f p q vs st rest h = cond-seen past (ltb (length st) 32) _ _ _ _ (attempt-seen past (new (sizes .cells) (sizes .records) h b) _ _ (λ a. refl)) refl
@@ -184,14 +184,14 @@ module _ {S : Type 0} (host : Host S) (s : S) where
     after-seen n c (breaks past) = refl
 
     advance-seen : (P : Program) (sizes : Sizes) (x : Status Conf) (past : List Call)
-      → seenRun (advance (step P (behaviour host s) sizes) x past) ≡ advance (step P host sizes) x (reached host s past)
+        → seenRun (advance (step P (behaviour host s) sizes) x past) ≡ advance (step P host sizes) x (reached host s past)
     advance-seen P sizes (live n c) past = after-seen n c (step P (behaviour host s) sizes c past) ∙ ap (after n c) (step-seen P sizes past c)
     advance-seen P sizes (ended n w c) past = refl
     advance-seen P sizes (stopped n e c) past = refl
     advance-seen P sizes (broken n c) past = refl
 
     iterate-seen : (P : Program) (sizes : Sizes) (k : ℕ) (x : Status Conf) (past : List Call)
-      → seenRun (iterate (step P (behaviour host s) sizes) k x past) ≡ iterate (step P host sizes) k x (reached host s past)
+        → seenRun (iterate (step P (behaviour host s) sizes) k x past) ≡ iterate (step P host sizes) k x (reached host s past)
     iterate-seen P sizes zero x past = refl
     iterate-seen P sizes (suc k) x past =
         iterate-seen P sizes k (advance (step P (behaviour host s) sizes) x past .machine) (advance (step P (behaviour host s) sizes) x past .host)
@@ -199,14 +199,16 @@ module _ {S : Type 0} (host : Host S) (s : S) where
 
     pub behaviour-lawful : Lawful (behaviour host s)
     behaviour-lawful =
-        record
-          { suits = λ past c g e fit. lawful .suits (reached host s past) c g e fit
-          ; misfit = λ past c e. lawful .misfit (reached host s past) c e
-          ; keeps = λ past c e. ap (λ b. cond b (c ∷ past) past) e }
+        record {
+          suits = λ past c g e fit. lawful .suits (reached host s past) c g e fit;
+          misfit = λ past c e. lawful .misfit (reached host s past) c e;
+          keeps = λ past c e. ap (λ b. cond b (c ∷ past) past) e;
+        }
 
     pub behaves : Behaves host s
     behaves =
-        record
-          { lawful = behaviour-lawful
-          ; machine = λ P sizes k x past. ap (λ r. r .machine) (iterate-seen P sizes k x past)
-          ; state = λ P sizes k x past. ap (λ r. r .host) (iterate-seen P sizes k x past) }
+        record {
+          lawful = behaviour-lawful;
+          machine = λ P sizes k x past. ap (λ r. r .machine) (iterate-seen P sizes k x past);
+          state = λ P sizes k x past. ap (λ r. r .host) (iterate-seen P sizes k x past);
+        }

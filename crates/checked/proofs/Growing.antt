@@ -29,7 +29,7 @@ abbrev Grows : {C S : Type 0} → Next C S → Next C S → Type 0
 Grows x y = (x ≡ y) ⊎ Capped x
 
 grows-two : {C S : Type 0} (a b c d : Bool) (x z : Next C S) → Capped z → (a ≡ true → b ≡ true) → (c ≡ true → d ≡ true)
-  → Grows (cond a (cond c x z) z) (cond b (cond d x z) z)
+    → Grows (cond a (cond c x z) z) (cond b (cond d x z) z)
 grows-two false b c d x z k f g = inr k
 grows-two true b false d x z k f g = inr k
 grows-two true b true d x z k f g = inl (sym (ap₂ (λ p q. cond p (cond q x z) z) (f refl) (g refl)))
@@ -37,16 +37,17 @@ grows-two true b true d x z k f g = inl (sym (ap₂ (λ p q. cond p (cond q x z)
 -- an allocation under more memory: the same, or a stop for want of it
 module _ (cells records more-cells more-records : ℕ) (le : cells ≤ more-cells) (lr : records ≤ more-records) where
   allocate-grows : {S : Type 0} (h : Heap) (how : Layout) (s : S) (k : Allocation → Next Conf S)
-    → Grows (attempt (allocate cells records h how) s k) (attempt (allocate more-cells more-records h how) s k)
+      → Grows (attempt (allocate cells records h how) s k) (attempt (allocate more-cells more-records h how) s k)
   allocate-grows h how s k =
       go (leb (total h + room how) cells) (leb (total h + room how) more-cells) (ltb (length h) records) (ltb (length h) more-records)
-        (λ e. let p = leb-true (total h + room how) cells e in le-leb (total h + room how) more-cells (omega arith))
-        (λ e. let p = ltb-true (length h) records e in lt-ltb (length h) more-records (omega arith))
+      (λ e. let p = leb-true (total h + room how) cells e in le-leb (total h + room how) more-cells (omega arith))
+      (λ e. let p = ltb-true (length h) records e in lt-ltb (length h) more-records (omega arith))
     where
       made : Allocation
       made = record { heap = h ++ (record { layout = how; cells = fresh how } ∷ []); reference = block (length h) 0 }
+
       go : (a b c d : Bool) → (a ≡ true → b ≡ true) → (c ≡ true → d ≡ true)
-        → Grows (attempt (cond a (cond c (gives made) (stops Cells)) (stops Cells)) s k)
+          → Grows (attempt (cond a (cond c (gives made) (stops Cells)) (stops Cells)) s k)
           (attempt (cond b (cond d (gives made) (stops Cells)) (stops Cells)) s k)
       go false b c d f g = inr (λ x. x)
       go true b false d f g = inr (λ x. x)
@@ -65,40 +66,40 @@ module _ {S : Type 0} where
   grows-found (Some a) s x y g = g a
 
   grows-took : (t : Taken) (s : S) (x y : List Value → List Value → Next Conf S) → ((a b : List Value) → Grows (x a b) (y a b))
-    → Grows (tookArguments t s x) (tookArguments t s y)
+      → Grows (tookArguments t s x) (tookArguments t s y)
   grows-took short s x y g = inl refl
   grows-took (taken a b) s x y g = g a b
 
   grows-word : (st : List Value) (s : S) (x y : ℕ → List Value → Next Conf S) → ((n : ℕ) (t : List Value) → Grows (x n t) (y n t))
-    → Grows (popWord st s x) (popWord st s y)
+      → Grows (popWord st s x) (popWord st s y)
   grows-word [] s x y g = inl refl
   grows-word (word n ∷ st) s x y g = g n st
   grows-word (reference r ∷ st) s x y g = inl refl
 
   module _ (P : Program) (host : Host S) (sizes more : Sizes) (le : NoLess sizes more) where
     enter-grows : (c : ℕ) (g : Function) (args : List Value) (f q : ℕ) (vs : List (Option Value)) (st : List Value) (rest : List Frame) (h : Heap) (s : S)
-      → Grows (enter P host sizes c g args f q vs st rest h s) (enter P host more c g args f q vs st rest h s)
+        → Grows (enter P host sizes c g args f q vs st rest h s) (enter P host more c g args f q vs st rest h s)
     enter-grows c g args f q vs st rest h s =
         let l = le .frames in
         let m = le .slots in
         grows-two (ltb (suc (length rest)) (sizes .frames)) (ltb (suc (length rest)) (more .frames))
-          (leb (reserve (Some g) + reserved P (frame f q vs st ∷ rest)) (sizes .slots)) (leb (reserve (Some g) + reserved P (frame f q vs st ∷ rest)) (more .slots))
-          _ _ (λ x. x)
-          (λ e. let p = ltb-true (suc (length rest)) (sizes .frames) e in lt-ltb (suc (length rest)) (more .frames) (omega arith))
-          (λ e. let p = leb-true (reserve (Some g) + reserved P (frame f q vs st ∷ rest)) (sizes .slots) e in
-            le-leb (reserve (Some g) + reserved P (frame f q vs st ∷ rest)) (more .slots) (omega arith))
+        (leb (reserve (Some g) + reserved P (frame f q vs st ∷ rest)) (sizes .slots)) (leb (reserve (Some g) + reserved P (frame f q vs st ∷ rest)) (more .slots))
+        _ _ (λ x. x)
+        (λ e. let p = ltb-true (suc (length rest)) (sizes .frames) e in lt-ltb (suc (length rest)) (more .frames) (omega arith))
+        (λ e. let p = leb-true (reserve (Some g) + reserved P (frame f q vs st ∷ rest)) (sizes .slots) e in
+        le-leb (reserve (Some g) + reserved P (frame f q vs st ∷ rest)) (more .slots) (omega arith))
 
     newarray-grows : (h : Heap) (b n : ℕ) (s : S) (k : Allocation → Next Conf S)
-      → Grows (attempt (newarray (sizes .cells) (sizes .records) h b n) s k) (attempt (newarray (more .cells) (more .records) h b n) s k)
+        → Grows (attempt (newarray (sizes .cells) (sizes .records) h b n) s k) (attempt (newarray (more .cells) (more .records) h b n) s k)
     newarray-grows h b n s k = go (ltb n (2 ^ 31))
       where
         go : (t : Bool) → Grows (attempt (cond t (allocate (sizes .cells) (sizes .records) h (array n b)) (stops Length)) s k)
-          (attempt (cond t (allocate (more .cells) (more .records) h (array n b)) (stops Length)) s k)
+            (attempt (cond t (allocate (more .cells) (more .records) h (array n b)) (stops Length)) s k)
         go true = allocate-grows (sizes .cells) (sizes .records) (more .cells) (more .records) (le .cells) (le .records) h (array n b) s k
         go false = inl refl
 
     exec-grows : (i : Instruction) (f p q : ℕ) (vs : List (Option Value)) (st : List Value) (rest : List Frame) (h : Heap) (s : S)
-      → Grows (exec P host sizes i f p q vs st rest h s) (exec P host more i f p q vs st rest h s)
+        → Grows (exec P host sizes i f p q vs st rest h s) (exec P host more i f p q vs st rest h s)
     unfolding exec
     exec-grows Nop f p q vs st rest h s = inl refl
     exec-grows Pop f p q vs st rest h s = inl refl
@@ -117,7 +118,7 @@ module _ {S : Type 0} where
     exec-grows (Goto o) f p q vs st rest h s = inl refl
     exec-grows (Invokestatic c) f p q vs st rest h s =
         grows-found (nth (P .functions) c) s _ _ (λ g. grows-took (arguments (g .signature) st) s _ _ (λ args t.
-          grows-room t s _ _ (enter-grows c g args f q vs t rest h s)))
+        grows-room t s _ _ (enter-grows c g args f q vs t rest h s)))
     exec-grows (Invokenative c) f p q vs st rest h s = inl refl
     exec-grows Return f p q vs st rest h s = inl refl
     exec-grows (New b) f p q vs st rest h s =

@@ -94,18 +94,19 @@ held-of (reference r) = refl
 pub holding-reach : (vs : List (Option Value)) (x y : Shape) → Reach x y → Holding vs (x .variables) → Holding vs (y .variables)
 holding-reach vs x y r h i =
     elim (r .variables i) [
-      inl e ↦ subst (λ k. Held k (variable vs i)) (sym e) tt
-    | inr e ↦ subst (λ k. Held k (variable vs i)) (sym e) (h i) ]
+      | inl e ↦ subst (λ k. Held k (variable vs i)) (sym e) tt
+      | inr e ↦ subst (λ k. Held k (variable vs i)) (sym e) (h i)
+    ]
 
 pub holding-set : (vs : List (Option Value)) (ks : List Kind) (i : ℕ) (v : Value) → i < length vs → i < length ks → Holding vs ks
-  → Holding (set vs i (Some v)) (set ks i (kindOf v))
+    → Holding (set vs i (Some v)) (set ks i (kindOf v))
 holding-set vs ks i v lv lk h j = go (eqb j i) refl
   where
     go : (b : Bool) → eqb j i ≡ b → Held (getD (set ks i (kindOf v)) j Unknown) (variable (set vs i (Some v)) j)
     go true q =
         let e = eqb-true j i q in
         subst (λ m. Held (getD (set ks i (kindOf v)) m Unknown) (variable (set vs i (Some v)) m)) (sym e)
-          (subst₂ Held (sym (getD-set-same ks i (kindOf v) Unknown lk)) (sym (getD-set-same vs i (Some v) None lv)) (held-of v))
+        (subst₂ Held (sym (getD-set-same ks i (kindOf v) Unknown lk)) (sym (getD-set-same vs i (Some v) None lv)) (held-of v))
     go false q =
         let ne = eqb-false j i q in
         subst₂ Held (sym (getD-set-other ks i j (kindOf v) Unknown ne)) (sym (getD-set-other vs i j (Some v) None ne)) (h j)

@@ -32,7 +32,7 @@ module _ {C S : Type 0} (step : C → S → Next C S) where
   stays (suc k) (broken n c) s o = stays k (broken n c) s o
 
   pub iterate-add : (a b : ℕ) (x : Status C) (s : S)
-    → iterate step (a + b) x s ≡ iterate step b (iterate step a x s .machine) (iterate step a x s .host)
+      → iterate step (a + b) x s ≡ iterate step b (iterate step a x s .machine) (iterate step a x s .host)
   iterate-add zero b x s = rw zero-add
   iterate-add (suc a) b x s = rw suc-add (iterate-add a b (advance step x s .machine) (advance step x s .host))
 
@@ -44,7 +44,7 @@ module _ {C S : Type 0} (step : C → S → Next C S) where
   serve-sum (look j ∷ ts) x s = serve-sum ts x s
 
   pub longer : (j k : ℕ) (x : Status C) (s : S) (y : Status C) (t : S) → j ≤ k → Over y → iterate step j x s ≡ served y t
-    → iterate step k x s ≡ served y t
+      → iterate step k x s ≡ served y t
   longer j k x s y t le o h =
       let q : j + (k - j) ≡ k = omega arith in
       rw (← q) (iterate-add j (k - j) x s ∙ ap (λ r. iterate step (k - j) (r .machine) (r .host)) h ∙ stays (k - j) y t o)
@@ -68,9 +68,9 @@ module _ {C S : Type 0} (step : C → S → Next C S) (y : Status C) (t : S) (o 
       (0, omega arith, q)
 
   used-next : (k n : ℕ) (c : C)
-    → ((n : ℕ) (c : C) (s : S) → iterate step k (live n c) s ≡ served y t → Used n (live n c) s)
-    → (z : Next C S) → iterate step k (after n c z .machine) (after n c z .host) ≡ served y t
-    → Used (suc n) (after n c z .machine) (after n c z .host)
+      → ((n : ℕ) (c : C) (s : S) → iterate step k (live n c) s ≡ served y t → Used n (live n c) s)
+      → (z : Next C S) → iterate step k (after n c z .machine) (after n c z .host) ≡ served y t
+      → Used (suc n) (after n c z .machine) (after n c z .host)
   used-next k n c again (goes d s) h = again (suc n) d s h
   used-next k n c again (ends w s) h = used-over k (suc n) (ended (suc n) w c) s tt refl h
   used-next k n c again (stops e s) h = used-over k (suc n) (stopped (suc n) e c) s tt refl h
@@ -98,9 +98,9 @@ Uncapped (stopped n e c) = Lasting e
 Uncapped (broken n c) = Unit {0}
 
 module _ {C S : Type 0} (step big : C → S → Next C S) (grows : (c : C) (s : S) → (step c s ≡ big c s) ⊎ Capped (step c s))
-  (y : Status C) (t : S) (lasting : Uncapped y) where
+    (y : Status C) (t : S) (lasting : Uncapped y) where
   not-capped : (k n : ℕ) (c : C) (z : Next C S) → Capped z
-    → iterate step k (after n c z .machine) (after n c z .host) ≡ served y t → ⊥
+      → iterate step k (after n c z .machine) (after n c z .host) ≡ served y t → ⊥
   not-capped k n c (goes d s) q h = q
   not-capped k n c (ends w s) q h = q
   not-capped k n c (stops e s) q h =
@@ -115,12 +115,13 @@ module _ {C S : Type 0} (step big : C → S → Next C S) (grows : (c : C) (s : 
   bigger (suc k) (broken n c) s h = bigger k (broken n c) s h
   bigger (suc k) (live n c) s h =
       elim (grows c s) [
-        inl q ↦ bigger k (after n c (big c s) .machine) (after n c (big c s) .host) (rw (← q) h)
-      | inr q ↦ absurd (not-capped k n c (step c s) q h) ]
+        | inl q ↦ bigger k (after n c (big c s) .machine) (after n c (big c s) .host) (rw (← q) h)
+        | inr q ↦ absurd (not-capped k n c (step c s) q h)
+      ]
 
   -- what runs of one host come to in the end, runs of its twin on a bigger machine come to once they are allowed as many steps
   pub twins : Over y → (ts us : List Turn) (c : C) (s : S) → serve step ts (live 0 c) s ≡ served y t → made y ≤ allowance us
-    → serve big us (live 0 c) s ≡ served y t
+      → serve big us (live 0 c) s ≡ served y t
   twins o ts us c s h le =
       let u = used step y t o (allowance ts) 0 c s (sym (serve-sum step ts (live 0 c) s) ∙ h) in
       let m : u .0 ≤ allowance us = let q = u .1 in omega arith in

@@ -63,12 +63,12 @@ pub replaced : (f p V : ℕ) (wanted left : List Kind) (s r : Shape) → perform
 unfolding perform
 replaced f p V wanted left s r e =
     go (leb (length wanted) (length (s .stack))) refl (eqKinds (take (length wanted) (s .stack)) wanted) refl
-      (leb (length (left ++ drop (length wanted) (s .stack))) 32) refl e
+    (leb (length (left ++ drop (length wanted) (s .stack))) 32) refl e
   where
     go : (a : Bool) → leb (length wanted) (length (s .stack)) ≡ a → (b : Bool) → eqKinds (take (length wanted) (s .stack)) wanted ≡ b
-      → (c : Bool) → leb (length (left ++ drop (length wanted) (s .stack))) 32 ≡ c
-      → keeping f p (s .variables) (check a (18, f, p) (check b (20, f, p) (check c (19, f, p) (good (left ++ drop (length wanted) (s .stack)))))) ≡ good r
-      → Replaced wanted left s r
+        → (c : Bool) → leb (length (left ++ drop (length wanted) (s .stack))) 32 ≡ c
+        → keeping f p (s .variables) (check a (18, f, p) (check b (20, f, p) (check c (19, f, p) (good (left ++ drop (length wanted) (s .stack)))))) ≡ good r
+        → Replaced wanted left s r
     go false pa b pb c pc h = absurd (never (18, f, p) r h)
     go true pa false pb c pc h = absurd (never (20, f, p) r h)
     go true pa true pb false pc h = absurd (never (19, f, p) r h)
@@ -76,12 +76,13 @@ replaced f p V wanted left s r e =
         let q = eqKinds-is (take (length wanted) (s .stack)) wanted pb in
         let l = leb-true (length (left ++ drop (length wanted) (s .stack))) 32 pc in
         let t : r .stack ≡ left ++ drop (length wanted) (s .stack) = cc in
-        record
-          { rest = drop (length wanted) (s .stack)
-          ; before = sym (take-append-drop (length wanted) (s .stack)) ∙ ap (λ k. k ++ drop (length wanted) (s .stack)) q
-          ; after = t
-          ; low = let m = ap length t in omega arith
-          ; same = cc }
+        record {
+          rest = drop (length wanted) (s .stack);
+          before = sym (take-append-drop (length wanted) (s .stack)) ∙ ap (λ k. k ++ drop (length wanted) (s .stack)) q;
+          after = t;
+          low = let m = ap length t in omega arith;
+          same = cc;
+        }
 
 -- a variable of a known kind was put on the stack
 pub record Loaded (i V : ℕ) (s r : Shape) : Type 0 where
@@ -100,11 +101,11 @@ unknown-ref : Ref ≡ Unknown → ⊥
 unknown-ref e = let z : _≡_ {A = ℕ} 0 1 = cc in omega arith
 
 roomy : (f p : ℕ) (vs st : List Kind) (r : Shape) → keeping f p vs (room f p st) ≡ good r
-  → (r .stack ≡ st) × (length (r .stack) ≤ 32) × (r .variables ≡ vs)
+    → (r .stack ≡ st) × (length (r .stack) ≤ 32) × (r .variables ≡ vs)
 roomy f p vs st r e = go (leb (length st) 32) refl e
   where
     go : (c : Bool) → leb (length st) 32 ≡ c → keeping f p vs (check c (19, f, p) (good st)) ≡ good r
-      → (r .stack ≡ st) × (length (r .stack) ≤ 32) × (r .variables ≡ vs)
+        → (r .stack ≡ st) × (length (r .stack) ≤ 32) × (r .variables ≡ vs)
     go false q h = absurd (never (19, f, p) r h)
     go true q h =
         let l = leb-true (length st) 32 q in
@@ -116,7 +117,7 @@ unfolding perform
 loads f p V i s r e = go (ltb i V) refl (getD (s .variables) i Unknown) refl e
   where
     go : (a : Bool) → ltb i V ≡ a → (k : Kind) → getD (s .variables) i Unknown ≡ k
-      → check a (21, f, p) (keeping f p (s .variables) (loaded f p k (s .stack))) ≡ good r → Loaded i V s r
+        → check a (21, f, p) (keeping f p (s .variables) (loaded f p k (s .stack))) ≡ good r → Loaded i V s r
     go false q k g h = absurd (never (21, f, p) r h)
     go true q Unknown g h = absurd (never (21, f, p) r h)
     go true q Word g h =
@@ -138,7 +139,7 @@ unfolding perform
 stores f p V i s r e = go (ltb i V) refl (s .stack) refl e
   where
     go : (a : Bool) → ltb i V ≡ a → (st : List Kind) → s .stack ≡ st → check a (21, f, p) (stored f p i (s .variables) st) ≡ good r
-      → Stored i V s r
+        → Stored i V s r
     go false q st g h = absurd (never (21, f, p) r h)
     go true q [] g h = absurd (never (18, f, p) r h)
     go true q (k ∷ st) g h = record { kind = k; inside = ltb-true i V q; before = cc; after = cc }
@@ -203,12 +204,13 @@ unfolding perform
 pairs f p V s r e = go (s .stack) refl e
   where
     two : (k l : Kind) (st : List Kind) → s .stack ≡ k ∷ l ∷ st → (b : Bool) → eqKind k l ≡ b
-      → keeping f p (s .variables) (check b (20, f, p) (good st)) ≡ good r → Paired s r
+        → keeping f p (s .variables) (check b (20, f, p) (good st)) ≡ good r → Paired s r
     two k l st g false q h = absurd (never (20, f, p) r h)
     two k l st g true q h =
         let i = eqKind-is k l q in
         let t : r .stack ≡ st = cc in
         record { kind = k; before = g ∙ ap (λ m. k ∷ m ∷ st) (sym i) ∙ ap (λ m. k ∷ k ∷ m) (sym t); same = cc }
+
     go : (st : List Kind) → s .stack ≡ st → keeping f p (s .variables) (compared f p st) ≡ good r → Paired s r
     go [] g h = absurd (never (18, f, p) r h)
     go (k ∷ []) g h = absurd (never (18, f, p) r h)
@@ -220,9 +222,10 @@ unfolding perform
 gives-result f p V k s r e = go (s .stack) refl e
   where
     one : (l : Kind) → s .stack ≡ l ∷ [] → (b : Bool) → eqKind l k ≡ b
-      → keeping f p (s .variables) (check b (20, f, p) (good [])) ≡ good r → s .stack ≡ k ∷ []
+        → keeping f p (s .variables) (check b (20, f, p) (good [])) ≡ good r → s .stack ≡ k ∷ []
     one l g false q h = absurd (never (20, f, p) r h)
     one l g true q h = let i = eqKind-is l k q in cc
+
     go : (st : List Kind) → s .stack ≡ st → keeping f p (s .variables) (returned f p k st) ≡ good r → s .stack ≡ k ∷ []
     go [] g h = absurd (never (25, f, p) r h)
     go (l ∷ []) g h = one l g (eqKind l k) refl h
@@ -257,13 +260,14 @@ takes-all (k ∷ ks) u [] acc e = absurd (let z : _≡_ {A = ℕ} 0 1 = cc in le
 takes-all (k ∷ ks) u (v ∷ st) acc e =
     let q : kindOf v ≡ k = cc in
     let t = takes-all ks u st (v ∷ acc) (let m : map kindOf st ≡ ks ++ u = cc in m) in
-    record
-      { args = t .args
-      ; left = t .left
-      ; takes-them = ap (λ b. cond b (takes ks st (v ∷ acc)) short) (ap (λ l. isKind l v) (sym q) ∙ is-kind v) ∙ t .takes-them
-      ; kinds-left = t .kinds-left
-      ; kinds-args = t .kinds-args ∙ ap (λ l. reverse ks ++ (l ∷ map kindOf acc)) q ∙ regroup k ks (map kindOf acc)
-      ; whole = sym (regroup-values v acc st) ∙ t .whole }
+    record {
+      args = t .args;
+      left = t .left;
+      takes-them = ap (λ b. cond b (takes ks st (v ∷ acc)) short) (ap (λ l. isKind l v) (sym q) ∙ is-kind v) ∙ t .takes-them;
+      kinds-left = t .kinds-left;
+      kinds-args = t .kinds-args ∙ ap (λ l. reverse ks ++ (l ∷ map kindOf acc)) q ∙ regroup k ks (map kindOf acc);
+      whole = sym (regroup-values v acc st) ∙ t .whole;
+    }
 
 -- the arguments of a call
 pub record Given (g : Signature) (u : List Kind) (st : List Value) : Type 0 where
@@ -277,13 +281,14 @@ pub record Given (g : Signature) (u : List Kind) (st : List Value) : Type 0 wher
 pub given : (g : Signature) (u : List Kind) (st : List Value) → map kindOf st ≡ reverse (g .arguments) ++ u → Given g u st
 given g u st e =
     let t = takes-all (reverse (g .arguments)) u st [] e in
-    record
-      { args = t .args
-      ; left = t .left
-      ; takes-them = t .takes-them
-      ; kinds-left = t .kinds-left
-      ; kinds-args = t .kinds-args ∙ append-nil (reverse (reverse (g .arguments))) ∙ reverse-reverse (g .arguments)
-      ; whole = t .whole }
+    record {
+      args = t .args;
+      left = t .left;
+      takes-them = t .takes-them;
+      kinds-left = t .kinds-left;
+      kinds-args = t .kinds-args ∙ append-nil (reverse (reverse (g .arguments))) ∙ reverse-reverse (g .arguments);
+      whole = t .whole;
+    }
 
 -- ## What a host is told fits what it signs
 

@@ -32,13 +32,14 @@ module _ (P : Program) (plans : Plans) (ok : Accepted P plans) where
   pub begins-sound : Sound P plans (begins (variablesAt P 0))
   begins-sound =
       let g = nth-some (P .functions) 0 (ok .some) in
-      let e = nth-getD (P .functions) 0 (g .0) noFunction (g .1) in
-      ( fits-at P plans 0 0 (g .0) (replicate (variablesAt P 0) None) (entryOf (functionAt P 0)) [] (g .1)
-          (length-replicate {A = Option Value} (variablesAt P 0) None ∙ ap (λ k. k .variables) e)
-          (ok .fullest 0 (ok .some) .sound .begins) refl
-          (subst (λ k. Holding (replicate (variablesAt P 0) None) (k ++ replicate (32 - length k) Unknown)) (sym (ok .plain))
-            (entry-holding [] (variablesAt P 0) 32))
-      , main )
+      let e = nth-getD (P .functions) 0 (g .0) noFunction (g .1) in (
+        fits-at P plans 0 0 (g .0) (replicate (variablesAt P 0) None) (entryOf (functionAt P 0)) [] (g .1)
+            (length-replicate {A = Option Value} (variablesAt P 0) None ∙ ap (λ k. k .variables) e)
+            (ok .fullest 0 (ok .some) .sound .begins) refl
+            (subst (λ k. Holding (replicate (variablesAt P 0) None) (k ++ replicate (32 - length k) Unknown)) (sym (ok .plain))
+            (entry-holding [] (variablesAt P 0) 32)),
+        main,
+      )
 
   module _ {S : Type 0} (sizes : Sizes) where
     sane-after : (n : ℕ) (c : Conf) (x : Next Conf S) → Sound P plans c → Fine P plans x → Sane (after n c x .machine)
@@ -83,11 +84,12 @@ module _ (P : Program) (plans : Plans) (ok : Accepted P plans) where
 
   pub law-holds : (S : Type 0) (sizes : Sizes) → Law S P plans sizes
   law-holds S sizes =
-      record
-        { kept = λ ps l. sane-kept (handleAll (checkedMachine P sizes) ps (begun S P plans sizes)) (sane-handled sizes ps l (begun S P plans sizes) begins-sound)
-        ; adds = λ host a b x s. iterate-add (step P host sizes) a b x s
-        ; threads = λ host ts x s. threads (checkedMachine P sizes) host ts x s
-        ; ends-alike = λ big le host s ts us n w c t h m.
-            twins (step P host sizes) (step P host big) (step-grows P host sizes big le) (ended n w c) t tt tt ts us (begins (variablesAt P 0)) s h m
-        ; stops-alike = λ big le host s ts us n e c t h l m.
-            twins (step P host sizes) (step P host big) (step-grows P host sizes big le) (stopped n e c) t l tt ts us (begins (variablesAt P 0)) s h m }
+      record {
+        kept = λ ps l. sane-kept (handleAll (checkedMachine P sizes) ps (begun S P plans sizes)) (sane-handled sizes ps l (begun S P plans sizes) begins-sound);
+        adds = λ host a b x s. iterate-add (step P host sizes) a b x s;
+        threads = λ host ts x s. threads (checkedMachine P sizes) host ts x s;
+        ends-alike = λ big le host s ts us n w c t h m.
+            twins (step P host sizes) (step P host big) (step-grows P host sizes big le) (ended n w c) t tt tt ts us (begins (variablesAt P 0)) s h m;
+        stops-alike = λ big le host s ts us n e c t h l m.
+            twins (step P host sizes) (step P host big) (step-grows P host sizes big le) (stopped n e c) t l tt ts us (begins (variablesAt P 0)) s h m;
+      }

@@ -17,16 +17,17 @@ reached host s (c ∷ past) = host .becomes (reached host s past) c
 -- the behaviour of a host in state s: its state is the list of calls that it answered
 abbrev pub behaviour : {S : Type 0} → Host S → S → Host (List Call)
 behaviour host s =
-    record
-      { signs = host .signs
-      ; replies = λ past c. host .replies (reached host s past) c
-      ; becomes = λ past c. cond (fitting (host .signs (c .index)) (c .arguments)) (c ∷ past) past }
+    record {
+      signs = host .signs;
+      replies = λ past c. host .replies (reached host s past) c;
+      becomes = λ past c. cond (fitting (host .signs (c .index)) (c .arguments)) (c ∷ past) past;
+    }
 
 module _ {S : Type 0} (host : Host S) (s : S) where
   -- the behaviour keeps the laws, and a run with it does what a run with the host does and leads to the host's state
   pub record Behaves : Type 0 where
     pub lawful : Lawful (behaviour host s)
     pub machine : (P : Program) (sizes : Sizes) (k : ℕ) (x : Status Conf) (past : List Call)
-      → iterate (step P (behaviour host s) sizes) k x past .machine ≡ iterate (step P host sizes) k x (reached host s past) .machine
+        → iterate (step P (behaviour host s) sizes) k x past .machine ≡ iterate (step P host sizes) k x (reached host s past) .machine
     pub state : (P : Program) (sizes : Sizes) (k : ℕ) (x : Status Conf) (past : List Call)
-      → reached host s (iterate (step P (behaviour host s) sizes) k x past .host) ≡ iterate (step P host sizes) k x (reached host s past) .host
+        → reached host s (iterate (step P (behaviour host s) sizes) k x past .host) ≡ iterate (step P host sizes) k x (reached host s past) .host

@@ -80,16 +80,16 @@ module _ (S : Type 0) (P : Program) (plans : Plans) (sizes : Sizes) where
     pub kept : (ps : List (Request S)) → AllKeepLaws ps → Kept P plans (handleAll (checkedMachine P sizes) ps begun)
     -- a run of a steps and then one of b is a run of a + b steps
     pub adds : (host : Host S) (a b : ℕ) (x : Status Conf) (s : S) → iterate (step P host sizes) (a + b) x s
-      ≡ iterate (step P host sizes) b (iterate (step P host sizes) a x s .machine) (iterate (step P host sizes) a x s .host)
+        ≡ iterate (step P host sizes) b (iterate (step P host sizes) a x s .machine) (iterate (step P host sizes) a x s .host)
     -- turns with one host are requests, each with the host as the one before it left it
     pub threads : (host : Host S) (ts : List Turn) (x : Status Conf) (s : S)
-      → handleAll (checkedMachine P sizes) (threaded (checkedMachine P sizes) host ts x s) x ≡ serve (step P host sizes) ts x s .machine
+        → handleAll (checkedMachine P sizes) (threaded (checkedMachine P sizes) host ts x s) x ≡ serve (step P host sizes) ts x s .machine
     -- one host serves all runs up to an end, its twin those of a twin machine with no less memory, whatever its turns:
     -- once their allowances add up to at least the steps that the first made, it has come to the same end, with the host alike
     pub ends-alike : (more : Sizes) → NoLess sizes more → (host : Host S) (s : S) (ts us : List Turn) (n w : ℕ) (c : Conf) (t : S)
-      → serve (step P host sizes) ts begun s ≡ served (ended n w c) t → n ≤ allowance us
-      → serve (step P host more) us begun s ≡ served (ended n w c) t
+        → serve (step P host sizes) ts begun s ≡ served (ended n w c) t → n ≤ allowance us
+        → serve (step P host more) us begun s ≡ served (ended n w c) t
     -- the same for a stop other than cells and calls, which stands at the same function and place
     pub stops-alike : (more : Sizes) → NoLess sizes more → (host : Host S) (s : S) (ts us : List Turn) (n : ℕ) (e : Stop) (c : Conf) (t : S)
-      → serve (step P host sizes) ts begun s ≡ served (stopped n e c) t → Lasting e → n ≤ allowance us
-      → serve (step P host more) us begun s ≡ served (stopped n e c) t
+        → serve (step P host sizes) ts begun s ≡ served (stopped n e c) t → Lasting e → n ≤ allowance us
+        → serve (step P host more) us begun s ≡ served (stopped n e c) t

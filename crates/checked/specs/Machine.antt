@@ -147,11 +147,12 @@ textIn strings (Some r) = textOf strings r
 
 abbrev pub callOf : Program → Native → List Value → Call
 callOf P n args =
-    record
-      { index = n .index
-      ; arguments = map argumentOf args
-      ; first = textIn (P .strings) (nth (references args) 0)
-      ; second = textIn (P .strings) (nth (references args) 1) }
+    record {
+      index = n .index;
+      arguments = map argumentOf args;
+      first = textIn (P .strings) (nth (references args) 0);
+      second = textIn (P .strings) (nth (references args) 1);
+    }
 
 -- ## One instruction
 
@@ -251,7 +252,7 @@ module _ {S : Type 0} where
     ask n args s k =
         cond (agrees (n .signature) (host .signs (n .index)))
         (answered (n .signature .result) (host .replies s (callOf P n args)) (references args) (host .becomes s (callOf P n args))
-          (λ v. k v (host .becomes s (callOf P n args))))
+        (λ v. k v (host .becomes s (callOf P n args))))
         (halts NoNative s)
 
     -- one instruction at the place p of function f; q is the place after it
@@ -281,7 +282,7 @@ module _ {S : Type 0} where
         found (nth (P .functions) c) s (λ g. tookArguments (arguments (g .signature) st) s (λ args t. roomFor t s (enter c g args f q vs t rest h s)))
     exec (Invokenative c) f p q vs st rest h s =
         found (nth (P .natives) c) s (λ n. tookArguments (arguments (n .signature) st) s (λ args t. roomFor t s
-          (ask n args s (λ v u. resume f q vs (v ∷ t) rest h u))))
+        (ask n args s (λ v u. resume f q vs (v ∷ t) rest h u))))
     exec Return f p q vs st rest h s =
         found (nth (P .functions) f) s (λ g. onlyValue st s (λ v. cond (isKind (g .signature .result) v) (return v rest h s) (breaks s)))
     exec (New b) f p q vs st rest h s =

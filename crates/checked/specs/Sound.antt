@@ -45,8 +45,8 @@ pub record Fits (P : Program) (plans : Plans) (f p : ℕ) (vs : List (Option Val
 pub data Callers (P : Program) (plans : Plans) : ℕ → List Frame → Type 0 where
   main : Callers P plans 0 []
   more : {g f p : ℕ} {vs : List (Option Value)} {st : List Value} {rest : List Frame}
-    → Fits P plans f p vs (functionAt P g .signature .result ∷ map kindOf st) → Callers P plans f rest
-    → Callers P plans g (frame f p vs st ∷ rest)
+      → Fits P plans f p vs (functionAt P g .signature .result ∷ map kindOf st) → Callers P plans f rest
+      → Callers P plans g (frame f p vs st ∷ rest)
 
 abbrev pub Sound : Program → Plans → Conf → Type 0
 Sound P plans (conf (frame f p vs st) rest h) = Fits P plans f p vs (map kindOf st) × Callers P plans f rest

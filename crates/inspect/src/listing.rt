@@ -2,12 +2,12 @@
 ghost use Prim.Native.Nat.{_<_};
 ghost use lib.ListN.{length};
 ghost use Rattle.reader.specs.View.{Fitting};
+use crate::dump;
 use bytecode::instruction::Instruction;
 use bytecode::instruction::Operation;
 use bytecode::instruction::Order;
 use bytecode::instruction::decode;
 use bytecode::kind::Kind;
-use crate::dump;
 use reader::package::Package;
 use std::io;
 
@@ -167,7 +167,11 @@ fn functions(rt: &LibcRuntime, package: &Package) -> io::Result<()>
     for f in 0..package.function_count {
         let variables = package.variables(f);
         let code = package.code(f);
-        print!(rt, "function {f} of {variables} variables and {} code bytes: ", code.len())?;
+        print!(
+            rt,
+            "function {f} of {variables} variables and {} code bytes: ",
+            code.len()
+        )?;
         function_kinds(rt, package, f)?;
         instructions(rt, code)?;
     }

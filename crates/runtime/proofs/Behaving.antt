@@ -40,9 +40,9 @@ module _ {S : Type 0} (host : Host S) (s : S) where
     asked-seen past l q None = refl
     asked-seen past l q (Some n) =
         cond-seen (agrees (n .signature) (host .signs (n .index))) _ _ _ _
-          (lifted-seen (behaviour host s .becomes past (callOf P l n)) (replied l q n (host .replies (reached host s past) (callOf P l n)))
-            ∙ ap (λ u. lifted u (replied l q n (host .replies (reached host s past) (callOf P l n)))) (reached-call host s lawful past (callOf P l n)))
-          refl
+        (lifted-seen (behaviour host s .becomes past (callOf P l n)) (replied l q n (host .replies (reached host s past) (callOf P l n)))
+        ∙ ap (λ u. lifted u (replied l q n (host .replies (reached host s past) (callOf P l n)))) (reached-call host s lawful past (callOf P l n)))
+        refl
 
     act-seen : (past : List Call) (i : Instruction) (q : ℕ) (l : State) → seen (act P (behaviour host s) i q l past) ≡ act P host i q l (reached host s past)
     act-seen past Nop q l = lifted-seen past (exec P Nop q l)
@@ -106,7 +106,8 @@ module _ {S : Type 0} (host : Host S) (s : S) where
 
   pub behaves : Lawful host → Behaves host s
   behaves lawful =
-      record
-        { lawful = behaviour-lawful host s lawful
-        ; machine = λ P k x past. ap (λ r. r .machine) (iterate-seen lawful P k x past)
-        ; state = λ P k x past. ap (λ r. r .host) (iterate-seen lawful P k x past) }
+      record {
+        lawful = behaviour-lawful host s lawful;
+        machine = λ P k x past. ap (λ r. r .machine) (iterate-seen lawful P k x past);
+        state = λ P k x past. ap (λ r. r .host) (iterate-seen lawful P k x past);
+      }

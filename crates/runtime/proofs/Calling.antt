@@ -41,7 +41,7 @@ lifted-cond s false x y = refl
 
 -- two tests that are the same on both sides
 both : {C D S : Type 0} (R : C → D → Type 0) (a b : Bool) (x z : Next C S) (y t : Next D S) → (a ≡ true → b ≡ true → Same R x y) → Same R z t
-  → Same R (cond a (cond b x z) z) (cond a (cond b y t) t)
+    → Same R (cond a (cond b x z) z) (cond a (cond b y t) t)
 both R true true x z y t g h = g refl refl
 both R true false x z y t g h = h
 both R false true x z y t g h = h
@@ -50,34 +50,38 @@ both R false false x z y t g h = h
 -- ## Calls
 
 module _ (P : Program) (sizes : Sizes) {S : Type 0} (host : Host S) (f p q : ℕ) (vs : List (Option Value)) (st : List Value) (rest : List Frame) (h : Heap) (l : State) (s : S)
-  (r : Represents P sizes f p vs st rest h l) where
-
+    (r : Represents P sizes f p vs st rest h l) where
   abbrev R : Conf → State → Type 0
   R = Represented P sizes
 
   pub enter-same : (c : ℕ) (g : Function) (args left : List Value) → nth (P .functions) c ≡ Some g → st ≡ reverse args ++ left → length args ≡ length (g .signature .arguments)
-    → length (g .signature .arguments) ≤ g .variables → Same R (enter P host sizes c g args f q vs left rest h s) (lifted s (called l q c (Some g)))
+      → length (g .signature .arguments) ≤ g .variables → Same R (enter P host sizes c g args f q vs left rest h s) (lifted s (called l q c (Some g)))
   enter-same c g args left known whole count fit =
       subst (Same R (enter P host sizes c g args f q vs left rest h s))
-        (sym (lifted-cond s (ltb (suc (l .callers)) (length (l .frames))) (cond (leb (reserve (Some g) + l .reserved) (length (l .slots))) (went (entered l q c g)) (halted Calls)) (halted Calls)
-          ∙ ap (λ x. cond (ltb (suc (l .callers)) (length (l .frames))) x (halts Calls s)) (lifted-cond s (leb (reserve (Some g) + l .reserved) (length (l .slots))) (went (entered l q c g)) (halted Calls))))
-        (subst₂ (λ a b. Same R (enter P host sizes c g args f q vs left rest h s) (cond a (cond b (goes (entered l q c g) s) (halts Calls s)) (halts Calls s)))
-          (sym (ap₂ (λ x y. ltb (suc x) y) (r .callers) (r .frame-count))) (sym (ap₂ (λ x y. leb (reserve (Some g) + x) y) (r .reserves) (r .slot-count)))
-          (both R (ltb (suc (length rest)) (sizes .frames)) (leb (reserve (Some g) + reserved P (frame f q vs left ∷ rest)) (sizes .slots)) _ _ _ _
-            (λ a b. go (inside (ltb-true (suc (length rest)) (sizes .frames) a) (leb-true (reserve (Some g) + reserved P (frame f q vs left ∷ rest)) (sizes .slots) b))) stop))
+      (sym (lifted-cond s (ltb (suc (l .callers)) (length (l .frames))) (cond (leb (reserve (Some g) + l .reserved) (length (l .slots))) (went (entered l q c g)) (halted Calls)) (halted Calls)
+      ∙ ap (λ x. cond (ltb (suc (l .callers)) (length (l .frames))) x (halts Calls s)) (lifted-cond s (leb (reserve (Some g) + l .reserved) (length (l .slots))) (went (entered l q c g)) (halted Calls))))
+      (subst₂ (λ a b. Same R (enter P host sizes c g args f q vs left rest h s) (cond a (cond b (goes (entered l q c g) s) (halts Calls s)) (halts Calls s)))
+      (sym (ap₂ (λ x y. ltb (suc x) y) (r .callers) (r .frame-count))) (sym (ap₂ (λ x y. leb (reserve (Some g) + x) y) (r .reserves) (r .slot-count)))
+      (both R (ltb (suc (length rest)) (sizes .frames)) (leb (reserve (Some g) + reserved P (frame f q vs left ∷ rest)) (sizes .slots)) _ _ _ _
+      (λ a b. go (inside (ltb-true (suc (length rest)) (sizes .frames) a) (leb-true (reserve (Some g) + reserved P (frame f q vs left ∷ rest)) (sizes .slots) b))) stop))
     where
       k : ℕ
       k = g .variables - length args
+
       new : List (Option Value)
       new = map Some args ++ replicate k None
+
       depth : length st ≡ length args + length left
       depth = ap length whole ∙ length-append (reverse args) left ∙ ap (λ n. n + length left) (length-reverse args)
+
       caller : FrameRecord
       caller = record { function = l .function; place = q; base = l .base }
+
       caller-is : _≡_ {A = FrameRecord} caller (record { function = f; place = q; base = length (flat rest) })
       caller-is = let a = r .function in let b = r .base in cc
+
       inside : suc (length rest) < sizes .frames → reserve (Some g) + reserved P (frame f q vs left ∷ rest) ≤ sizes .slots
-        → Represents P sizes c 0 new [] (frame f q vs left ∷ rest) h (entered l q c g)
+          → Represents P sizes c 0 new [] (frame f q vs left ∷ rest) h (entered l q c g)
       inside free roomy =
           let e = flat-enter f p q c vs st args left rest k whole in
           let a = flat-length f p vs st rest in
@@ -85,81 +89,104 @@ module _ (P : Program) (sizes : Sizes) {S : Type 0} (host : Host S) (f p q : ℕ
           let t = r .top in
           let n = depth in
           let w : length (flat (frame c 0 new [] ∷ frame f q vs left ∷ rest)) ≡ length (flat (frame f p vs st ∷ rest)) + k =
-            ap length e ∙ length-append (flat (frame f p vs st ∷ rest)) (replicate k None) ∙ ap (λ n. length (flat (frame f p vs st ∷ rest)) + n) (length-replicate {A = Option Value} k None) in
+          ap length e ∙ length-append (flat (frame f p vs st ∷ rest)) (replicate k None) ∙ ap (λ n. length (flat (frame f p vs st ∷ rest)) + n) (length-replicate {A = Option Value} k None) in
           let lt : length rest < length (l .frames) = (let z = r .frame-count in omega arith) in
           let v = ap reserve known in
-          record
-            { function = refl
-            ; place = refl
-            ; base = omega arith
-            ; top = omega arith
-            ; lays = subst (λ xs. Lays (l .storage .count) xs (l .slots)) (sym e) (lays-unset (l .storage .count) (flat (frame f p vs st ∷ rest)) k (l .slots) (r .lays))
-            ; records = subst (λ i. Records (set (l .frames) i caller) (frame f q vs left ∷ rest)) (sym (r .callers))
-                ((getD-set-same (l .frames) (length rest) caller noFrame lt ∙ caller-is), records-more (l .frames) (length rest) caller rest (omega arith) (r .records))
-            ; callers = ap suc (r .callers)
-            ; reserves = let z = r .reserves in omega arith
-            ; slot-count = r .slot-count
-            ; frame-count = length-set (l .frames) (l .callers) caller ∙ r .frame-count
-            ; roomy = omega arith
-            ; free = free
-            ; heap = r .heap
-            ; sized = r .sized }
+          record {
+            function = refl;
+            place = refl;
+            base = omega arith;
+            top = omega arith;
+            lays = subst (λ xs. Lays (l .storage .count) xs (l .slots)) (sym e) (lays-unset (l .storage .count) (flat (frame f p vs st ∷ rest)) k (l .slots) (r .lays));
+            records = subst (λ i. Records (set (l .frames) i caller) (frame f q vs left ∷ rest)) (sym (r .callers))
+                ((getD-set-same (l .frames) (length rest) caller noFrame lt ∙ caller-is), records-more (l .frames) (length rest) caller rest (omega arith) (r .records));
+            callers = ap suc (r .callers);
+            reserves = let z = r .reserves in omega arith;
+            slot-count = r .slot-count;
+            frame-count = length-set (l .frames) (l .callers) caller ∙ r .frame-count;
+            roomy = omega arith;
+            free = free;
+            heap = r .heap;
+            sized = r .sized;
+          }
 
 -- ## Returns
 
 -- the value is put where the callee's variables began, right above the caller's stack
 module _ (P : Program) (sizes : Sizes) {S : Type 0} (f p : ℕ) (vs : List (Option Value)) (h : Heap) (l : State) (s : S) (g : Function)
-  (known : nth (P .functions) f ≡ Some g) where
-
+    (known : nth (P .functions) f ≡ Some g) where
   back : (v : Value) (e q : ℕ) (us : List (Option Value)) (t : List Value) (rest : List Frame) → Represents P sizes f p vs (v ∷ []) (frame e q us t ∷ rest) h l → length (flat (frame e q us t ∷ rest)) < length (l .slots)
-    → Represents P sizes e q us (v ∷ t) rest h (leaves l g (getD (l .frames) (l .callers - 1) noFrame) (slot l (l .top - 1)))
+      → Represents P sizes e q us (v ∷ t) rest h (leaves l g (getD (l .frames) (l .callers - 1) noFrame) (slot l (l .top - 1)))
   back v e q us t rest r inside =
       subst (λ k. Represents P sizes e q us (v ∷ t) rest h (leaves l g k (slot l (l .top - 1)))) (sym there)
-        (subst (λ b. Represents P sizes e q us (v ∷ t) rest h (record { function = e; place = q; base = length (flat rest); slots = set (l .slots) b (slot l (l .top - 1)); top = suc b;
-          frames = l .frames; callers = l .callers - 1; reserved = l .reserved - reserve (Some g); storage = l .storage })) (sym (r .base)) whole)
+      (subst (λ b. Represents P sizes e q us (v ∷ t) rest h (record {
+        function = e;
+        place = q;
+        base = length (flat rest);
+        slots = set (l .slots) b (slot l (l .top - 1));
+        top = suc b;
+        frames = l .frames;
+        callers = l .callers - 1;
+        reserved = l .reserved - reserve (Some g);
+        storage = l .storage;
+      })) (sym (r .base)) whole)
     where
       below : List (Option Value)
       below = flat (frame e q us t ∷ rest)
+
       there : getD (l .frames) (l .callers - 1) noFrame ≡ record { function = e; place = q; base = length (flat rest) }
       there = let i : l .callers - 1 ≡ length rest = (let a = r .callers in omega arith) in ap (λ n. getD (l .frames) n noFrame) i ∙ r .records .0
+
       top-is : l .top - 1 ≡ length below + length vs
       top-is = let a = r .top in let b = flat-length f p vs (v ∷ []) (frame e q us t ∷ rest) in omega arith
+
       value : Stands (l .storage .count) v (slot l (l .top - 1))
       value =
           let a = subst (λ xs. Lays (l .storage .count) xs (l .slots)) (flat-push f p vs v [] (frame e q us t ∷ rest)) (r .lays) in
           let i : l .top - 1 ≡ length (flat (frame f p vs [] ∷ frame e q us t ∷ rest)) = top-is ∙ (let b = flat-length f p vs [] (frame e q us t ∷ rest) in let z : length below + length vs ≡ length (flat (frame f p vs [] ∷ frame e q us t ∷ rest)) = omega arith in z) in
           subst (λ n. Stands (l .storage .count) v (slot l n)) (sym i) (lays-last (l .storage .count) (flat (frame f p vs [] ∷ frame e q us t ∷ rest)) v (l .slots) a)
-      whole : Represents P sizes e q us (v ∷ t) rest h (record { function = e; place = q; base = length (flat rest); slots = set (l .slots) (length below) (slot l (l .top - 1)); top = suc (length below);
-          frames = l .frames; callers = l .callers - 1; reserved = l .reserved - reserve (Some g); storage = l .storage })
+
+      whole : Represents P sizes e q us (v ∷ t) rest h (record {
+        function = e;
+        place = q;
+        base = length (flat rest);
+        slots = set (l .slots) (length below) (slot l (l .top - 1));
+        top = suc (length below);
+        frames = l .frames;
+        callers = l .callers - 1;
+        reserved = l .reserved - reserve (Some g);
+        storage = l .storage;
+      })
       whole =
           let front = lays-front (l .storage .count) below (vs ++ map Some (reverse (v ∷ []))) (l .slots) (r .lays) in
           let a = flat-length e q us t rest in
           let n = r .reserves in
           let w = ap reserve known in
-          record
-            { function = refl
-            ; place = refl
-            ; base = refl
-            ; top = sym (ap length (flat-push e q us v t rest) ∙ length-more below (Some v))
-            ; lays = subst (λ xs. Lays (l .storage .count) xs (set (l .slots) (length below) (slot l (l .top - 1)))) (sym (flat-push e q us v t rest))
-                (lays-more (l .storage .count) below v (l .slots) (slot l (l .top - 1)) inside front value)
-            ; records = r .records .1
-            ; callers = let z = r .callers in omega arith
-            ; reserves = omega arith
-            ; slot-count = length-set (l .slots) (length below) (slot l (l .top - 1)) ∙ r .slot-count
-            ; frame-count = r .frame-count
-            ; roomy = let z = r .roomy in omega arith
-            ; free = let z = r .free in omega arith
-            ; heap = r .heap
-            ; sized = r .sized }
+          record {
+            function = refl;
+            place = refl;
+            base = refl;
+            top = sym (ap length (flat-push e q us v t rest) ∙ length-more below (Some v));
+            lays = subst (λ xs. Lays (l .storage .count) xs (set (l .slots) (length below) (slot l (l .top - 1)))) (sym (flat-push e q us v t rest))
+                (lays-more (l .storage .count) below v (l .slots) (slot l (l .top - 1)) inside front value);
+            records = r .records .1;
+            callers = let z = r .callers in omega arith;
+            reserves = omega arith;
+            slot-count = length-set (l .slots) (length below) (slot l (l .top - 1)) ∙ r .slot-count;
+            frame-count = r .frame-count;
+            roomy = let z = r .roomy in omega arith;
+            free = let z = r .free in omega arith;
+            heap = r .heap;
+            sized = r .sized;
+          }
 
   pub return-same : (v : Value) (rest : List Frame) → Represents P sizes f p vs (v ∷ []) rest h l
-    → ((e q : ℕ) (us : List (Option Value)) (t : List Value) (fs : List Frame) → rest ≡ frame e q us t ∷ fs → length t < 32)
-    → (rest ≡ [] → kindOf v ≡ Word) → length (flat rest) < length (l .slots)
-    → Same (Represented P sizes) (return v rest h s) (lifted s (returned l (Some g)))
+      → ((e q : ℕ) (us : List (Option Value)) (t : List Value) (fs : List Frame) → rest ≡ frame e q us t ∷ fs → length t < 32)
+      → (rest ≡ [] → kindOf v ≡ Word) → length (flat rest) < length (l .slots)
+      → Same (Represented P sizes) (return v rest h s) (lifted s (returned l (Some g)))
   return-same v [] r low main inside =
       subst (λ b. Same (Represented P sizes) (return v [] h s) (lifted s (cond b (went (leaves l g (getD (l .frames) (l .callers - 1) noFrame) (slot l (l .top - 1)))) (gave (slot l (l .top - 1))))))
-        (sym (le-ltb 0 (l .callers) (let a = r .callers in omega arith))) (last v r (main refl))
+      (sym (le-ltb 0 (l .callers) (let a = r .callers in omega arith))) (last v r (main refl))
     where
       last : (v : Value) → Represents P sizes f p vs (v ∷ []) [] h l → kindOf v ≡ Word → Same (Represented P sizes) (return v [] h s) (ends (slot l (l .top - 1)) s)
       last (word n) r e =
@@ -167,8 +194,8 @@ module _ (P : Program) (sizes : Sizes) {S : Type 0} (f p : ℕ) (vs : List (Opti
       last (reference a) r e = absurd (let z : _≡_ {A = ℕ} 0 1 = cc in let b : ⊥ = omega arith in b)
   return-same v (frame e q us t ∷ fs) r low main inside =
       subst₂ (λ a b. Same (Represented P sizes) (cond a (resume e q us (v ∷ t) fs h s) (breaks s)) (lifted s (cond b (went (leaves l g (getD (l .frames) (l .callers - 1) noFrame) (slot l (l .top - 1)))) (gave (slot l (l .top - 1))))))
-        (sym (lt-ltb (length t) 32 (low e q us t fs refl))) (sym (lt-ltb 0 (l .callers) (let a = r .callers in omega arith)))
-        (go (back v e q us t fs r inside))
+      (sym (lt-ltb (length t) 32 (low e q us t fs refl))) (sym (lt-ltb 0 (l .callers) (let a = r .callers in omega arith)))
+      (go (back v e q us t fs r inside))
 
 -- ## Natives
 
@@ -181,9 +208,10 @@ arguments-at : (count : ℕ) (xs : List (Option Value)) (args : List Value) (mem
 arguments-at count xs [] mem h = tt
 arguments-at count xs (v ∷ args) mem h =
     let e = append-assoc xs (Some v ∷ []) (map Some args) in
-    let d = subst (λ ys. Lays count ys mem) (sym e) h in
-    ( lays-last count xs v mem (lays-front count (xs ++ (Some v ∷ [])) (map Some args) mem d)
-    , subst (ArgumentsAt count args mem) (length-more xs (Some v)) (arguments-at count (xs ++ (Some v ∷ [])) args mem d) )
+    let d = subst (λ ys. Lays count ys mem) (sym e) h in (
+      lays-last count xs v mem (lays-front count (xs ++ (Some v ∷ [])) (map Some args) mem d),
+      subst (ArgumentsAt count args mem) (length-more xs (Some v)) (arguments-at count (xs ++ (Some v ∷ [])) args mem d),
+    )
 
 -- what a reference's number says of it
 by-number : (Q : Reference → Bool → Type 0) (n : ℕ) → Q null true → ((p : ℕ) → n ≡ suc p → Q (text p) false) → ((b o : ℕ) → Q (block b o) false) → Q (referenceOf n) (eqb n 0)
@@ -254,9 +282,8 @@ text-in-same strings (n ∷ ns) (suc i) = text-in-same strings ns i
 
 -- a native: the host is told the same, and its reply is put where the first argument was
 module _ (P : Program) (sizes : Sizes) {S : Type 0} (host : Host S) (lawful : Lawful host) (f p q : ℕ) (vs : List (Option Value)) (st : List Value) (rest : List Frame) (h : Heap) (l : State) (s : S)
-  (r : Represents P sizes f p vs st rest h l) (room : (t : List Value) → length t < 32 → length (flat (frame f p vs t ∷ rest)) < length (l .slots)) (n : Native) (args left : List Value)
-  (whole : st ≡ reverse args ++ left) (kinds : map kindOf args ≡ n .signature .arguments) (low : length left < 32) where
-
+    (r : Represents P sizes f p vs st rest h l) (room : (t : List Value) → length t < 32 → length (flat (frame f p vs t ∷ rest)) < length (l .slots)) (n : Native) (args left : List Value)
+    (whole : st ≡ reverse args ++ left) (kinds : map kindOf args ≡ n .signature .arguments) (low : length left < 32) where
   spread : flat (frame f p vs st ∷ rest) ≡ flat (frame f p vs left ∷ rest) ++ map Some args
   spread =
       sym (append-nil (flat (frame f p vs st ∷ rest))) ∙ sym (flat-enter f p p 0 vs st args left rest 0 whole)
@@ -286,20 +313,20 @@ module _ (P : Program) (sizes : Sizes) {S : Type 0} (host : Host S) (lawful : La
   call-same =
       let a = ap (λ k. argumentsFrom k (l .slots) (firstArgument l n)) (sym kinds) ∙ arguments-same (l .storage .count) args (l .slots) (firstArgument l n) there in
       let b : textIn (P .strings) (nth (numbersOf l n) 0) ≡ checked.textIn (P .strings) (nth (references args) 0) =
-        sym (text-in-same (P .strings) (numbersOf l n) 0) ∙ ap (λ k. checked.textIn (P .strings) (nth k 0)) (sym numbers-are) in
+      sym (text-in-same (P .strings) (numbersOf l n) 0) ∙ ap (λ k. checked.textIn (P .strings) (nth k 0)) (sym numbers-are) in
       let c : textIn (P .strings) (nth (numbersOf l n) 1) ≡ checked.textIn (P .strings) (nth (references args) 1) =
-        sym (text-in-same (P .strings) (numbersOf l n) 1) ∙ ap (λ k. checked.textIn (P .strings) (nth k 1)) (sym numbers-are) in
+      sym (text-in-same (P .strings) (numbersOf l n) 1) ∙ ap (λ k. checked.textIn (P .strings) (nth k 1)) (sym numbers-are) in
       λ i. record { index = n .index; arguments = a i; first = b i; second = c i }
 
   -- a value put where the first argument was
   answer : (u : S) (v : Value) (m : ℕ) → Stands (l .storage .count) v m
-    → Same (Represented P sizes) (resume f q vs (v ∷ left) rest h u) (goes (pushed l q (firstArgument l n) m) u)
+      → Same (Represented P sizes) (resume f q vs (v ∷ left) rest h u) (goes (pushed l q (firstArgument l n) m) u)
   answer u v m sv =
       go (put P sizes f p vs rest h l s room st r left q (firstArgument l n) m v h (l .storage)
-        (lays-front (l .storage .count) (flat (frame f p vs left ∷ rest)) (map Some args) (l .slots) lying) first-is low (r .heap) (as-it-was P sizes f p vs rest h l s st r) sv)
+      (lays-front (l .storage .count) (flat (frame f p vs left ∷ rest)) (map Some args) (l .slots) lying) first-is low (r .heap) (as-it-was P sizes f p vs rest h l s st r) sv)
 
   reply-same : (u : S) {k : Kind} {c : ℕ} {reply : Reply} → Suits k c reply → c ≡ length (references args)
-    → Same (Represented P sizes) (answered k reply (references args) u (λ v. resume f q vs (v ∷ left) rest h u)) (lifted u (replied l q n reply))
+      → Same (Represented P sizes) (answered k reply (references args) u (λ v. resume f q vs (v ∷ left) rest h u)) (lifted u (replied l q n reply))
   reply-same u (Suits.word {w = w} lt) e = answer u (word w) w (refl, lt)
   reply-same u Suits.null e = answer u (reference null) 0 (refl, λ big. absurd (let b : ⊥ = omega arith in b))
   reply-same u (Suits.argument {i = i} lt) e =
@@ -308,7 +335,7 @@ module _ (P : Program) (sizes : Sizes) {S : Type 0} (host : Host S) (lawful : La
       let x = nth-some ns i (let a = ap length numbers-are in omega arith) in
       let a : nth (references args) i ≡ Some (referenceOf (x .0)) = ap (λ k. nth k i) numbers-are ∙ nth-map referenceOf ns i (x .0) (x .1) in
       subst₂ (λ o w. Same (Represented P sizes) (checked.found o u (λ z. resume f q vs (reference z ∷ left) rest h u)) (lifted u (handed l q (firstArgument l n) w))) (sym a) (sym (x .1))
-        (answer u (reference (referenceOf (x .0))) (x .0) (refl, known-nth (l .storage .count) ns i (x .0) numbers-known-are (x .1)))
+      (answer u (reference (referenceOf (x .0))) (x .0) (refl, known-nth (l .storage .count) ns i (x .0) numbers-known-are (x .1)))
   reply-same u (Suits.stop {k = Unknown}) e = stop
   reply-same u (Suits.stop {k = Word}) e = stop
   reply-same u (Suits.stop {k = Ref}) e = stop
@@ -317,14 +344,14 @@ module _ (P : Program) (sizes : Sizes) {S : Type 0} (host : Host S) (lawful : La
   ask-same = pick (agrees (n .signature) (host .signs (n .index))) refl
     where
       pick : (b : Bool) → agrees (n .signature) (host .signs (n .index)) ≡ b
-        → Same (Represented P sizes) (cond b (answered (n .signature .result) (host .replies s (checked.callOf P n args)) (references args) (host .becomes s (checked.callOf P n args))
-            (λ v. resume f q vs (v ∷ left) rest h (host .becomes s (checked.callOf P n args)))) (halts NoNative s))
+          → Same (Represented P sizes) (cond b (answered (n .signature .result) (host .replies s (checked.callOf P n args)) (references args) (host .becomes s (checked.callOf P n args))
+          (λ v. resume f q vs (v ∷ left) rest h (host .becomes s (checked.callOf P n args)))) (halts NoNative s))
           (cond b (lifted (host .becomes s (callOf P l n)) (replied l q n (host .replies s (callOf P l n)))) (halts NoNative s))
       pick false e = stop
       pick true e =
           subst (λ c. Same (Represented P sizes) (answered (n .signature .result) (host .replies s (checked.callOf P n args)) (references args) (host .becomes s (checked.callOf P n args))
-              (λ v. resume f q vs (v ∷ left) rest h (host .becomes s (checked.callOf P n args)))) (lifted (host .becomes s c) (replied l q n (host .replies s c)))) (sym call-same)
-            (reply-same (host .becomes s (checked.callOf P n args))
-              (lawful .suits s (checked.callOf P n args) (n .signature) (agrees-is (n .signature) (host .signs (n .index)) e)
-                (subst (λ k. fits k (map checked.argumentOf args) ≡ true) kinds (arguments-fit args)))
-              (count-references args))
+          (λ v. resume f q vs (v ∷ left) rest h (host .becomes s (checked.callOf P n args)))) (lifted (host .becomes s c) (replied l q n (host .replies s c)))) (sym call-same)
+          (reply-same (host .becomes s (checked.callOf P n args))
+          (lawful .suits s (checked.callOf P n args) (n .signature) (agrees-is (n .signature) (host .signs (n .index)) e)
+          (subst (λ k. fits k (map checked.argumentOf args) ≡ true) kinds (arguments-fit args)))
+          (count-references args))

@@ -33,21 +33,20 @@ module _ {C D S : Type 0} (R : C → D → Type 0) where
     iterate-both (suc k) x y a s =
         let b = advance-both a s in
         subst (λ t. Both (iterate step k (advance step x s .machine) (advance step x s .host)) (iterate build k (advance build y s .machine) t)) (b .host)
-          (iterate-both k (advance step x s .machine) (advance build y s .machine) (b .machine) (advance step x s .host))
+        (iterate-both k (advance step x s .machine) (advance build y s .machine) (b .machine) (advance step x s .host))
 
     pub serve-both : (ts : List Turn) (x : Status C) (y : Status D) → Alike R x y → (s : S) → Both (serve step ts x s) (serve build ts y s)
     serve-both [] x y a s = record { machine = a; host = refl }
     serve-both (Turn.run k ∷ ts) x y a s =
         let b = iterate-both k x y a s in
         subst (λ t. Both (serve step ts (iterate step k x s .machine) (iterate step k x s .host)) (serve build ts (iterate build k y s .machine) t)) (b .host)
-          (serve-both ts (iterate step k x s .machine) (iterate build k y s .machine) (b .machine) (iterate step k x s .host))
+        (serve-both ts (iterate step k x s .machine) (iterate build k y s .machine) (b .machine) (iterate step k x s .host))
     serve-both (Turn.look j ∷ ts) x y a s = serve-both ts x y a s
 
   -- ## What is told
 
   module _ (M : Machine C S) (N : Machine D S) (sim : (host : Host S) → Lawful host → (c : C) (d : D) (s : S) → R c d → Same R (M .step host c s) (N .step host d s))
-    (same-newest : (c : C) (d : D) → R c d → M .newest c ≡ N .newest d) (same-frame : (c : C) (d : D) → R c d → (j : ℕ) → M .frame c j ≡ N .frame d j) where
-
+      (same-newest : (c : C) (d : D) → R c d → M .newest c ≡ N .newest d) (same-frame : (c : C) (d : D) → R c d → (j : ℕ) → M .frame c j ≡ N .frame d j) where
     tells-same : (n : ℕ) {x : Status C} {y : Status D} → Alike R x y → tells M n x ≡ tells N n y
     tells-same n (lives r) = refl
     tells-same n (done r) = refl
@@ -86,7 +85,7 @@ module _ {C D S : Type 0} (R : C → D → Type 0) where
 
   -- ended from states that belong together
   pub ended-both : {x : Served C S} {y : Served D S} → Both x y → (n w : ℕ) (d : D) (t : S) → y ≡ served (ended n w d) t
-    → (c : C) × (x ≡ served (ended n w c) t) × R c d
+      → (c : C) × (x ≡ served (ended n w c) t) × R c d
   ended-both {x} {y} b n w d t q =
       let r = pick (x .machine) (y .machine) (b .machine) (ap (λ z. z .machine) q) in
       (r .0, (λ i. record { machine = r .1 i; host = (b .host ∙ ap (λ z. z .host) q) i }), r .2)
@@ -99,7 +98,7 @@ module _ {C D S : Type 0} (R : C → D → Type 0) where
       pick u v (halts r) q = absurd (let z : _≡_ {A = ℕ} 0 1 = cc in let f : ⊥ = omega arith in f)
 
   pub both-ended : {x : Served C S} {y : Served D S} → Both x y → (n w : ℕ) (c : C) (t : S) → x ≡ served (ended n w c) t
-    → (d : D) × (y ≡ served (ended n w d) t) × R c d
+      → (d : D) × (y ≡ served (ended n w d) t) × R c d
   both-ended {x} {y} b n w c t q =
       let r = pick (x .machine) (y .machine) (b .machine) (ap (λ z. z .machine) q) in
       (r .0, (λ i. record { machine = r .1 i; host = (sym (b .host) ∙ ap (λ z. z .host) q) i }), r .2)
@@ -113,7 +112,7 @@ module _ {C D S : Type 0} (R : C → D → Type 0) where
 
   -- stopped at states that belong together
   pub stopped-both : {x : Served C S} {y : Served D S} → Both x y → (n : ℕ) (e : Stop) (d : D) (t : S) → y ≡ served (stopped n e d) t
-    → (c : C) × (x ≡ served (stopped n e c) t) × R c d
+      → (c : C) × (x ≡ served (stopped n e c) t) × R c d
   stopped-both {x} {y} b n e d t q =
       let r = pick (x .machine) (y .machine) (b .machine) (ap (λ z. z .machine) q) in
       (r .0, (λ i. record { machine = r .1 i; host = (b .host ∙ ap (λ z. z .host) q) i }), r .2)
@@ -126,7 +125,7 @@ module _ {C D S : Type 0} (R : C → D → Type 0) where
           (c, ap₂ (λ i j. stopped i j c) a b, subst (R c) w r)
 
   pub both-stopped : {x : Served C S} {y : Served D S} → Both x y → (n : ℕ) (e : Stop) (c : C) (t : S) → x ≡ served (stopped n e c) t
-    → (d : D) × (y ≡ served (stopped n e d) t) × R c d
+      → (d : D) × (y ≡ served (stopped n e d) t) × R c d
   both-stopped {x} {y} b n e c t q =
       let r = pick (x .machine) (y .machine) (b .machine) (ap (λ z. z .machine) q) in
       (r .0, (λ i. record { machine = r .1 i; host = (sym (b .host) ∙ ap (λ z. z .host) q) i }), r .2)

@@ -23,7 +23,7 @@ use Rattle.runtime.proofs.Laying.{getD-front, getD-behind, set-front, set-behi
 -- ## What a frame has in its slots
 
 pub flat-length : (f p : ℕ) (vs : List (Option Value)) (st : List Value) (rest : List Frame)
-  → length (flat (frame f p vs st ∷ rest)) ≡ (length (flat rest) + length vs) + length st
+    → length (flat (frame f p vs st ∷ rest)) ≡ (length (flat rest) + length vs) + length st
 flat-length f p vs st rest =
     let a = length-append (flat rest) (vs ++ map Some (reverse st)) in
     let b = length-append vs (map Some (reverse st)) in
@@ -32,25 +32,25 @@ flat-length f p vs st rest =
     omega arith
 
 pub flat-push : (f p : ℕ) (vs : List (Option Value)) (v : Value) (t : List Value) (rest : List Frame)
-  → flat (frame f p vs (v ∷ t) ∷ rest) ≡ flat (frame f p vs t ∷ rest) ++ (Some v ∷ [])
+    → flat (frame f p vs (v ∷ t) ∷ rest) ≡ flat (frame f p vs t ∷ rest) ++ (Some v ∷ [])
 flat-push f p vs v t rest =
     ap (λ m. flat rest ++ (vs ++ m)) (ap (map Some) (reverse-append (v ∷ []) t) ∙ map-append Some (reverse t) (v ∷ []))
     ∙ ap (λ m. flat rest ++ m) (sym (append-assoc vs (map Some (reverse t)) (Some v ∷ [])))
     ∙ sym (append-assoc (flat rest) (vs ++ map Some (reverse t)) (Some v ∷ []))
 
 pub variable-at : (f p : ℕ) (vs : List (Option Value)) (st : List Value) (rest : List Frame) (i : ℕ) → i < length vs
-  → getD (flat (frame f p vs st ∷ rest)) (length (flat rest) + i) None ≡ getD vs i None
+    → getD (flat (frame f p vs st ∷ rest)) (length (flat rest) + i) None ≡ getD vs i None
 variable-at f p vs st rest i lt =
     getD-behind (flat rest) (vs ++ map Some (reverse st)) i None ∙ getD-front vs (map Some (reverse st)) i None lt
 
 pub variable-set : (f p q : ℕ) (vs : List (Option Value)) (st : List Value) (rest : List Frame) (i : ℕ) (v : Value) → i < length vs
-  → set (flat (frame f p vs st ∷ rest)) (length (flat rest) + i) (Some v) ≡ flat (frame f q (set vs i (Some v)) st ∷ rest)
+    → set (flat (frame f p vs st ∷ rest)) (length (flat rest) + i) (Some v) ≡ flat (frame f q (set vs i (Some v)) st ∷ rest)
 variable-set f p q vs st rest i v lt =
     set-behind (flat rest) (vs ++ map Some (reverse st)) i (Some v) ∙ ap (λ m. flat rest ++ m) (set-front vs (map Some (reverse st)) i (Some v) lt)
 
 -- a call's arguments become the first variables where they lie
 pub flat-enter : (f p q c : ℕ) (vs : List (Option Value)) (st args left : List Value) (rest : List Frame) (k : ℕ) → st ≡ reverse args ++ left
-  → flat (frame c 0 (map Some args ++ replicate k None) [] ∷ frame f q vs left ∷ rest) ≡ flat (frame f p vs st ∷ rest) ++ replicate k None
+    → flat (frame c 0 (map Some args ++ replicate k None) [] ∷ frame f q vs left ∷ rest) ≡ flat (frame f p vs st ∷ rest) ++ replicate k None
 flat-enter f p q c vs st args left rest k e =
     ap (λ m. flat (frame f q vs left ∷ rest) ++ m) (append-nil (map Some args ++ replicate k None))
     ∙ sym (append-assoc (flat (frame f q vs left ∷ rest)) (map Some args) (replicate k None))
@@ -60,6 +60,7 @@ flat-enter f p q c vs st args left rest k e =
     turned =
         ap (λ m. map Some (reverse m)) e ∙ ap (map Some) (reverse-append (reverse args) left ∙ ap (λ m. reverse left ++ m) (reverse-reverse args))
         ∙ map-append Some (reverse left) args
+
     whole : flat (frame f p vs st ∷ rest) ≡ flat (frame f q vs left ∷ rest) ++ map Some args
     whole =
         ap (λ m. flat rest ++ (vs ++ m)) turned ∙ ap (λ m. flat rest ++ m) (sym (append-assoc vs (map Some (reverse left)) (map Some args)))

@@ -66,8 +66,8 @@ module _ (count : ℕ) where
   pub lays-front : (xs ys : List (Option Value)) (mem : List ℕ) → Lays count (xs ++ ys) mem → Lays count xs mem
   lays-front xs ys mem h i =
       by-side (length xs) i
-        (λ lt. subst (λ o. Holds count o (getD mem i 0)) (getD-front xs ys i None lt) (h i))
-        (λ le. subst (λ o. Holds count o (getD mem i 0)) (sym (getD-beyond xs i None le)) tt)
+      (λ lt. subst (λ o. Holds count o (getD mem i 0)) (getD-front xs ys i None lt) (h i))
+      (λ le. subst (λ o. Holds count o (getD mem i 0)) (sym (getD-beyond xs i None le)) tt)
 
   -- the last value that is held
   pub lays-last : (xs : List (Option Value)) (v : Value) (mem : List ℕ) → Lays count (xs ++ (Some v ∷ [])) mem → Stands count v (getD mem (length xs) 0)
@@ -79,36 +79,36 @@ module _ (count : ℕ) where
 
   -- one value more
   pub lays-more : (xs : List (Option Value)) (v : Value) (mem : List ℕ) (n : ℕ) → length xs < length mem → Lays count xs mem → Stands count v n
-    → Lays count (xs ++ (Some v ∷ [])) (set mem (length xs) n)
+      → Lays count (xs ++ (Some v ∷ [])) (set mem (length xs) n)
   lays-more xs v mem n lt h r i = go (eqb i (length xs)) refl
     where
       go : (b : Bool) → eqb i (length xs) ≡ b → Holds count (getD (xs ++ (Some v ∷ [])) i None) (getD (set mem (length xs) n) i 0)
       go true q =
           let e = eqb-true i (length xs) q in
           subst (λ j. Holds count (getD (xs ++ (Some v ∷ [])) j None) (getD (set mem (length xs) n) j 0)) (sym e)
-            (subst₂ (Holds count) (sym (getD-last xs (Some v) None)) (sym (getD-set-same mem (length xs) n 0 lt)) r)
+          (subst₂ (Holds count) (sym (getD-last xs (Some v) None)) (sym (getD-set-same mem (length xs) n 0 lt)) r)
       go false q =
           let ne = eqb-false i (length xs) q in
           subst (λ m. Holds count (getD (xs ++ (Some v ∷ [])) i None) m) (sym (getD-set-other mem (length xs) i n 0 ne))
-            (by-side (length xs) i
-              (λ before. subst (λ o. Holds count o (getD mem i 0)) (sym (getD-front xs (Some v ∷ []) i None before)) (h i))
-              (λ le. subst (λ o. Holds count o (getD mem i 0))
-                (sym (getD-beyond (xs ++ (Some v ∷ [])) i None (let m = length-more xs (Some v) in
-                  let s : suc (length xs) ≤ i = after (length xs) i le ne in omega arith))) tt))
+          (by-side (length xs) i
+          (λ before. subst (λ o. Holds count o (getD mem i 0)) (sym (getD-front xs (Some v ∷ []) i None before)) (h i))
+          (λ le. subst (λ o. Holds count o (getD mem i 0))
+          (sym (getD-beyond (xs ++ (Some v ∷ [])) i None (let m = length-more xs (Some v) in
+          let s : suc (length xs) ≤ i = after (length xs) i le ne in omega arith))) tt))
         where
           after : (a b : ℕ) → a ≤ b → (b ≡ a → ⊥) → suc a ≤ b
           after a b le ne = omega arith
 
   -- a value written inside
   pub lays-set : (xs : List (Option Value)) (j : ℕ) (v : Value) (mem : List ℕ) (n : ℕ) → j < length xs → j < length mem → Lays count xs mem → Stands count v n
-    → Lays count (set xs j (Some v)) (set mem j n)
+      → Lays count (set xs j (Some v)) (set mem j n)
   lays-set xs j v mem n lx lm h r i = go (eqb i j) refl
     where
       go : (b : Bool) → eqb i j ≡ b → Holds count (getD (set xs j (Some v)) i None) (getD (set mem j n) i 0)
       go true q =
           let e = eqb-true i j q in
           subst (λ k. Holds count (getD (set xs j (Some v)) k None) (getD (set mem j n) k 0)) (sym e)
-            (subst₂ (Holds count) (sym (getD-set-same xs j (Some v) None lx)) (sym (getD-set-same mem j n 0 lm)) r)
+          (subst₂ (Holds count) (sym (getD-set-same xs j (Some v) None lx)) (sym (getD-set-same mem j n 0 lm)) r)
       go false q =
           let ne = eqb-false i j q in
           subst₂ (Holds count) (sym (getD-set-other xs j i (Some v) None ne)) (sym (getD-set-other mem j i n 0 ne)) (h i)
@@ -122,11 +122,11 @@ module _ (count : ℕ) where
   pub lays-unset : (xs : List (Option Value)) (k : ℕ) (mem : List ℕ) → Lays count xs mem → Lays count (xs ++ replicate k None) mem
   lays-unset xs k mem h i =
       by-side (length xs) i
-        (λ lt. subst (λ o. Holds count o (getD mem i 0)) (sym (getD-front xs (replicate k None) i None lt)) (h i))
-        (λ le.
-          let e : length xs + (i - length xs) ≡ i = omega arith in
-          subst (λ o. Holds count o (getD mem i 0))
-            (sym (ap (λ j. getD (xs ++ replicate k None) j None) (sym e) ∙ getD-behind xs (replicate k None) (i - length xs) None ∙ none-past k (i - length xs))) tt)
+      (λ lt. subst (λ o. Holds count o (getD mem i 0)) (sym (getD-front xs (replicate k None) i None lt)) (h i))
+      (λ le.
+      let e : length xs + (i - length xs) ≡ i = omega arith in
+      subst (λ o. Holds count o (getD mem i 0))
+      (sym (ap (λ j. getD (xs ++ replicate k None) j None) (sym e) ∙ getD-behind xs (replicate k None) (i - length xs) None ∙ none-past k (i - length xs))) tt)
 
 -- what stands for a value goes on standing for it as blocks are added
 pub stands-more : (a b : ℕ) → a ≤ b → (v : Value) (n : ℕ) → Stands a v n → Stands b v n

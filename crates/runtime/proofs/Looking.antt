@@ -26,7 +26,7 @@ use Rattle.runtime.proofs.Framing.{flat-length}
 module _ (P : Program) (plans : Plans) (ok : Accepted P plans) where
   -- the depth of a frame, from where its slots begin and end
   depth-is : (f p : ℕ) (vs : List (Option Value)) (st : List Value) (rest : List Frame) (ks : List Kind) (base top : ℕ) → Fits P plans f p vs ks → base ≡ length (flat rest)
-    → top ≡ length (flat (frame f p vs st ∷ rest)) → length st ≡ (top - base) - variablesAt P f
+      → top ≡ length (flat (frame f p vs st ∷ rest)) → length st ≡ (top - base) - variablesAt P f
   depth-is f p vs st rest ks base top w a b =
       let c = flat-length f p vs st rest in
       let d = w .sized in
@@ -54,7 +54,7 @@ module _ (P : Program) (plans : Plans) (ok : Accepted P plans) where
   end-suc recs n top low (suc j) e = let q : n - suc j ≡ suc n - suc (suc j) = omega arith in ap (λ i. getD recs i noFrame .base) q
 
   callers-seen : (recs : List FrameRecord) (g : ℕ) (fs : List Frame) (top j : ℕ) → Callers P plans g fs → Records recs fs → top ≡ length (flat fs)
-    → viewed (nth fs j) ≡ cond (ltb j (length fs)) (Some (seen recs (length fs) top j)) None
+      → viewed (nth fs j) ≡ cond (ltb j (length fs)) (Some (seen recs (length fs) top j)) None
   callers-seen recs g [] top j main h e = sym (ap (λ b. cond b (Some (seen recs 0 top j)) None) (le-ltb j 0 (omega arith)))
   callers-seen recs g (frame f p vs st ∷ fs) top zero (more w ws) h e =
       let i : suc (length fs) - 1 ≡ length fs = omega arith in
@@ -64,7 +64,7 @@ module _ (P : Program) (plans : Plans) (ok : Accepted P plans) where
       ∙ sym (ap (λ b. cond b (Some (seen recs (suc (length fs)) top 0)) None) (lt-ltb 0 (suc (length fs)) (omega arith)))
     where
       view-is : (f p n : ℕ) (k : FrameRecord) → k ≡ record { function = f; place = p; base = length (flat fs) } → n ≡ (top - length (flat fs)) - variablesAt P f
-        → _≡_ {A = View} (record { function = f; place = p; depth = n }) (viewOf P (k .function) (k .place) (k .base) top)
+          → _≡_ {A = View} (record { function = f; place = p; depth = n }) (viewOf P (k .function) (k .place) (k .base) top)
       view-is f p n k a b =
           subst (λ c. _≡_ {A = View} (record { function = f; place = p; depth = n }) (viewOf P (c .function) (c .place) (c .base) top)) (sym a) (ap (λ m. record { function = f; place = p; depth = m }) b)
   callers-seen recs g (frame f p vs st ∷ fs) top (suc j) (more w ws) h e =
@@ -72,7 +72,7 @@ module _ (P : Program) (plans : Plans) (ok : Accepted P plans) where
       let b = sym (ap (λ (k : FrameRecord). k .base) (h .0)) in
       callers-seen recs f fs (length (flat fs)) j ws (h .1) refl
       ∙ ap₂ (λ t v. cond t (Some v) None) (sym (leb·suc-suc (suc j) (length fs)))
-        (ap₂ (λ (k : FrameRecord) u. viewOf P (k .function) (k .place) (k .base) u) (ap (λ n. getD recs n noFrame) i) (end-suc recs (length fs) top (length (flat fs)) j b))
+      (ap₂ (λ (k : FrameRecord) u. viewOf P (k .function) (k .place) (k .base) u) (ap (λ n. getD recs n noFrame) i) (end-suc recs (length fs) top (length (flat fs)) j b))
 
   pub frame-same : (sizes : Sizes) (c : Conf) (l : State) → Sound P plans c → Represented P sizes c l → (j : ℕ) → checked.frameAt c j ≡ frameAt P l j
   frame-same sizes (conf (frame f p vs st) rest h) l s r zero = ap Some (newest-same sizes (conf (frame f p vs st) rest h) l s r)

@@ -99,8 +99,9 @@ Cells256 mem n = (j : ℕ) → j < n → Bytes (getD mem j noCell .bytes)
 cells-set : (mem : List Cell) (n j : ℕ) (c : Cell) → Cells256 mem n → Bytes (c .bytes) → Cells256 (set mem j c) n
 cells-set mem n j c h b i lt =
     elim (set-either mem j i c noCell) [
-      inl e ↦ subst (λ (x : Cell). Bytes (x .bytes)) (sym e) b
-    | inr e ↦ subst (λ (x : Cell). Bytes (x .bytes)) (sym e) (h i lt) ]
+      | inl e ↦ subst (λ (x : Cell). Bytes (x .bytes)) (sym e) b
+      | inr e ↦ subst (λ (x : Cell). Bytes (x .bytes)) (sym e) (h i lt)
+    ]
 
 cells-next : (mem : List Cell) (n : ℕ) (c : Cell) → Cells256 mem n → Bytes (c .bytes) → n < length mem → Cells256 (set mem n c) (suc n)
 cells-next mem n c h b inside i lt = go (eqb i n) refl
@@ -122,7 +123,7 @@ cells-clear mem i (suc n) h le =
     let e : suc i + n ≡ i + suc n = omega arith in
     let l = length-set mem i (unmarked zeros) in
     subst (Cells256 (clear (set mem i (unmarked zeros)) (suc i) n)) e
-      (cells-clear (set mem i (unmarked zeros)) (suc i) n (cells-next mem i (unmarked zeros) h bytes-zeros (omega arith)) (omega arith))
+    (cells-clear (set mem i (unmarked zeros)) (suc i) n (cells-next mem i (unmarked zeros) h bytes-zeros (omega arith)) (omega arith))
 
 cells-laid : (mem : List Cell) (i : ℕ) (how : Layout) → Cells256 mem i → i + room how ≤ length mem → Cells256 (laid mem i how) (i + room how)
 cells-laid mem i (single s) h le = cells-clear mem i (room (single s)) h le
@@ -157,7 +158,7 @@ module _ (l : Storage) (sound : Sound l) (n : ℕ) (known : Known (l .count) n) 
       deep big = pick (ltb (offsetOf n) (recordIn l (blockOf n) .from)) (ltb (recordIn l (blockOf n) .end) (offsetOf n + k)) refl (eqb (offsetOf n % k) 0)
         where
           pick : (a b : Bool) → ltb (recordIn l (blockOf n) .end) (offsetOf n + k) ≡ b → (c : Bool)
-            → Inside (l .used) (cond a (stops Bounds) (cond b (stops Bounds) (cond c (gives (recordIn l (blockOf n) .start + offsetOf n / 8)) (stops Alignment))))
+              → Inside (l .used) (cond a (stops Bounds) (cond b (stops Bounds) (cond c (gives (recordIn l (blockOf n) .start + offsetOf n / 8)) (stops Alignment))))
           pick true b e c = tt
           pick false true e c = tt
           pick false false e false = tt
@@ -168,6 +169,7 @@ module _ (l : Storage) (sound : Sound l) (n : ℕ) (known : Known (l .count) n) 
             where
               fits : (s o e k u : ℕ) → s + (e + 7) / 8 ≤ u → o + k ≤ e → 0 < k → s + o / 8 < u
               fits s o e k u a b c = omega arith
+
       go : (a b : Bool) → ltb n (2 ^ 32) ≡ b → Inside (l .used) (cond a (stops Null) (cond b (stops Text) (locateIn (recordIn l (blockOf n)) (offsetOf n) k)))
       go true b e = tt
       go false true e = tt
@@ -192,7 +194,7 @@ module _ (l : Storage) (sound : Sound l) (n : ℕ) (known : Known (l .count) n) 
     length-word = go (eqb n 0) (ltb n (2 ^ 32)) refl (ltb 0 (recordIn l (blockOf n) .from)) (eqb (offsetOf n) 0)
       where
         go : (a b : Bool) → ltb n (2 ^ 32) ≡ b → (c d : Bool)
-          → Word32 (andThen (cond a (stops Null) (cond b (stops Array) (cond c (cond d (gives (recordIn l (blockOf n))) (stops Array)) (stops Array)))) (λ r. gives (r .count)))
+            → Word32 (andThen (cond a (stops Null) (cond b (stops Array) (cond c (cond d (gives (recordIn l (blockOf n))) (stops Array)) (stops Array)))) (λ r. gives (r .count)))
         go true b e c d = tt
         go false true e c d = tt
         go false false e false d = tt
@@ -202,9 +204,10 @@ module _ (l : Storage) (sound : Sound l) (n : ℕ) (known : Known (l .count) n) 
     -- a cell that a store puts holds bytes
     sized-cell : (j : ℕ) (c : Cell) → Bytes (c .bytes) → Kept l (withCell l j c)
     sized-cell j c b =
-        record
-          { sized = record { bytes = cells-set (l .cells) (l .used) j c (sized .bytes) b; counts = sized .counts }
-          ; more = omega arith }
+        record {
+          sized = record { bytes = cells-set (l .cells) (l .used) j c (sized .bytes) b; counts = sized .counts };
+          more = omega arith;
+        }
 
     into : (j : ℕ) (b : Bool) (c : Cell) → Bytes (c .bytes) → KeptIf l (storedIn l j (cond b (stops Mark) (gives c)))
     into j true c h = tt
@@ -232,6 +235,7 @@ module _ (l : Storage) (sound : Sound l) (n : ℕ) (known : Known (l .count) n) 
         put j true b = sized-cell j (holding v) (bytes-number v)
         put j false true = sized-cell j (holding v) (bytes-number v)
         put j false false = tt
+
         go : (x : Attempt ℕ) → KeptIf l (andThen x (λ j. storedIn l j (numberInto (cellIn l j) v)))
         go (stops e) = tt
         go (gives j) = put j (cellIn l j .mark) (eqb (fromBytes (cellIn l j .bytes)) 0)
@@ -248,20 +252,21 @@ count-of i (array n s) h = h
 
 sized-placed : (l : Storage) → Sized l → (how : Layout) → Counted how → l .used + room how ≤ length (l .cells) → l .count < length (l .records) → Sized (placed l how)
 sized-placed l sized how c room-left record-left =
-    record
-      { bytes = cells-laid (l .cells) (l .used) how (sized .bytes) room-left
-      ; counts = λ b lt. go b lt (eqb b (l .count)) refl }
+    record {
+      bytes = cells-laid (l .cells) (l .used) how (sized .bytes) room-left;
+      counts = λ b lt. go b lt (eqb b (l .count)) refl;
+    }
   where
     go : (b : ℕ) → b < l .count + 1 → (t : Bool) → eqb b (l .count) ≡ t → getD (set (l .records) (l .count) (recordOf (l .used) how)) b noRecord .count < 2 ^ 32
     go b lt true q =
         let e : getD (set (l .records) (l .count) (recordOf (l .used) how)) b noRecord ≡ recordOf (l .used) how =
-          ap (λ k. getD (set (l .records) (l .count) (recordOf (l .used) how)) k noRecord) (eqb-true b (l .count) q)
-          ∙ getD-set-same (l .records) (l .count) (recordOf (l .used) how) noRecord record-left in
+        ap (λ k. getD (set (l .records) (l .count) (recordOf (l .used) how)) k noRecord) (eqb-true b (l .count) q)
+        ∙ getD-set-same (l .records) (l .count) (recordOf (l .used) how) noRecord record-left in
         subst (λ (r : BlockRecord). r .count < 2 ^ 32) (sym e) (count-of (l .used) how c)
     go b lt false q =
         let ne = eqb-false b (l .count) q in
         subst (λ (r : BlockRecord). r .count < 2 ^ 32) (sym (getD-set-other (l .records) (l .count) b (recordOf (l .used) how) noRecord ne))
-          (sized .counts b (below b (l .count) lt ne))
+        (sized .counts b (below b (l .count) lt ne))
       where
         below : (a b : ℕ) → a < b + 1 → (a ≡ b → ⊥) → a < b
         below a b lt ne = omega arith
@@ -270,13 +275,14 @@ sized-place : (l : Storage) → Sized l → (how : Layout) → Counted how → K
 sized-place l sized how c = go (leb (l .used + room how) (length (l .cells))) refl (ltb (l .count) (length (l .records))) refl
   where
     go : (a : Bool) → leb (l .used + room how) (length (l .cells)) ≡ a → (b : Bool) → ltb (l .count) (length (l .records)) ≡ b
-      → KeptPlacement l (cond (cond a b false) (gives (record { storage = placed l how; number = (l .count + 1) * 2 ^ 32 })) (stops Cells))
+        → KeptPlacement l (cond (cond a b false) (gives (record { storage = placed l how; number = (l .count + 1) * 2 ^ 32 })) (stops Cells))
     go false p b q = tt
     go true p false q = tt
     go true p true q =
-        record
-          { sized = sized-placed l sized how c (leb-true (l .used + room how) (length (l .cells)) p) (ltb-true (l .count) (length (l .records)) q)
-          ; more = omega arith }
+        record {
+          sized = sized-placed l sized how c (leb-true (l .used + room how) (length (l .cells)) p) (ltb-true (l .count) (length (l .records)) q);
+          more = omega arith;
+        }
 
 pub kept-new : (l : Storage) → Sized l → (s : ℕ) → KeptPlacement l (newSingle l s)
 kept-new l sized s = sized-place l sized (single s) tt

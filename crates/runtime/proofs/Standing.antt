@@ -42,7 +42,7 @@ module _ (P : Program) (plans : Plans) (ok : Accepted P plans) (small : Small P)
   paired-step sizes fine stop = stop
 
   pub step-paired : {S : Type 0} (host : Host S) → Lawful host → (sizes : Sizes) (c : Conf) (l : State) (s : S) → Paired sizes c l
-    → Same (Paired sizes) (checked.step P host sizes c s) (running.step P host l s)
+      → Same (Paired sizes) (checked.step P host sizes c s) (running.step P host l s)
   step-paired host lawful sizes c l s (sound, r) =
       paired-step sizes (step-fine P plans ok host lawful sizes c s sound) (step-same P plans ok small host lawful sizes c l s sound r)
 
@@ -53,28 +53,31 @@ module _ (P : Program) (plans : Plans) (ok : Accepted P plans) (small : Small P)
       let g = nth-some (P .functions) 0 (ok .some) in
       let e = nth-getD (P .functions) 0 (g .0) noFunction (g .1) in
       let v : variablesAt P 0 + 32 ≡ reserve (nth (P .functions) 0) + 0 =
-        (let a = ap reserve (g .1) in let b = ap (λ k. k .variables) e in omega arith) in
+      (let a = ap reserve (g .1) in let b = ap (λ k. k .variables) e in omega arith) in
       let n : length (flat (frame 0 0 (replicate (variablesAt P 0) None) [] ∷ [])) ≡ variablesAt P 0 =
-        ap length (append-nil (replicate (variablesAt P 0) None)) ∙ length-replicate {A = Option Value} (variablesAt P 0) None in
-      ( begins-sound P plans ok
-      , record
-          { function = refl
-          ; place = refl
-          ; base = refl
-          ; top = sym n
-          ; lays = subst (λ xs. Lays (m .storage .count) xs (m .slots)) (sym (append-nil (replicate (variablesAt P 0) None)))
-              (lays-unset (m .storage .count) [] (variablesAt P 0) (m .slots) (λ i. tt))
-          ; records = tt
-          ; callers = refl
-          ; reserves = v
-          ; slot-count = refl
-          ; frame-count = refl
-          ; roomy = let a = enough .slots in omega arith
-          ; free = enough .frames
-          ; heap = stands .begins (m .storage) (m .unused .used) (m .unused .count) (m .unused .cells) (m .unused .records)
-          ; sized = record
-              { bytes = λ j lt. absurd (let a = m .unused .used in let b : ⊥ = omega arith in b)
-              ; counts = λ b lt. absurd (let a = m .unused .count in let c : ⊥ = omega arith in c) } } )
+      ap length (append-nil (replicate (variablesAt P 0) None)) ∙ length-replicate {A = Option Value} (variablesAt P 0) None in (
+        begins-sound P plans ok,
+        record {
+          function = refl;
+          place = refl;
+          base = refl;
+          top = sym n;
+          lays = subst (λ xs. Lays (m .storage .count) xs (m .slots)) (sym (append-nil (replicate (variablesAt P 0) None)))
+              (lays-unset (m .storage .count) [] (variablesAt P 0) (m .slots) (λ i. tt));
+          records = tt;
+          callers = refl;
+          reserves = v;
+          slot-count = refl;
+          frame-count = refl;
+          roomy = let a = enough .slots in omega arith;
+          free = enough .frames;
+          heap = stands .begins (m .storage) (m .unused .used) (m .unused .count) (m .unused .cells) (m .unused .records);
+          sized = record {
+            bytes = λ j lt. absurd (let a = m .unused .used in let b : ⊥ = omega arith in b);
+            counts = λ b lt. absurd (let a = m .unused .count in let c : ⊥ = omega arith in c);
+          };
+        },
+      )
 
   -- ## The law
 
@@ -90,7 +93,7 @@ module _ (P : Program) (plans : Plans) (ok : Accepted P plans) (small : Small P)
     start k e = lives (begins-paired k e)
 
     served-both : (k : Memory) → Enough P k → (host : Host S) → Lawful host → (ts : List Turn) (s : S)
-      → Both (Paired (sizesOf k)) (serve (checked.step P host (sizesOf k)) ts (checkedBegun P) s) (serve (running.step P host) ts (begun P k) s)
+        → Both (Paired (sizesOf k)) (serve (checked.step P host (sizesOf k)) ts (checkedBegun P) s) (serve (running.step P host) ts (begun P k) s)
     served-both k e host lawful ts s =
         serve-both (Paired (sizesOf k)) (checked.step P host (sizesOf k)) (running.step P host) (step-paired host lawful (sizesOf k)) ts (checkedBegun P) (begun P k) (start k e) s
 
@@ -99,31 +102,36 @@ module _ (P : Program) (plans : Plans) (ok : Accepted P plans) (small : Small P)
 
     pub law-stands : Law S P plans m
     law-stands =
-        record
-          { answers = λ ps l. sym (responses-same (Paired sizes) (checkedMachine P sizes) (runtimeMachine P) sim newests frames ps l (checkedBegun P) (begun P m) (start m enough))
-          ; cells = λ ps l. alike-weaker (Paired sizes) (SameCells sizes) (same-cells sizes) (alike ps l)
-          ; slots = λ ps l. alike-weaker (Paired sizes) (Represented P sizes) (λ c d r. r .1) (alike ps l)
-          ; kept = λ ps l. law-holds P plans ok S sizes .kept ps l
-          ; threads = λ host ts x s. threads (runtimeMachine P) host ts x s
-          ; ends-alike = λ twin le host lawful s ts us n w l t q le′.
+        record {
+          answers = λ ps l. sym (responses-same (Paired sizes) (checkedMachine P sizes) (runtimeMachine P) sim newests frames ps l (checkedBegun P) (begun P m) (start m enough));
+          cells = λ ps l. alike-weaker (Paired sizes) (SameCells sizes) (same-cells sizes) (alike ps l);
+          slots = λ ps l. alike-weaker (Paired sizes) (Represented P sizes) (λ c d r. r .1) (alike ps l);
+          kept = λ ps l. law-holds P plans ok S sizes .kept ps l;
+          threads = λ host ts x s. threads (runtimeMachine P) host ts x s;
+          ends-alike = λ twin le host lawful s ts us n w l t q le′.
               let a = ended-both (Paired sizes) (served-both m enough host lawful ts s) n w l t q in
               let b = both-ended (Paired (sizesOf twin)) (served-both twin (enough-more m twin le enough) host lawful us s) n w (a .0) t
-                (law-holds P plans ok S sizes .ends-alike (sizesOf twin) le host s ts us n w (a .0) t (a .1) le′) in
-              (b .0, b .1)
-          ; stops-alike = λ twin le host lawful s ts us n e l t q lasting le′.
+              (law-holds P plans ok S sizes .ends-alike (sizesOf twin) le host s ts us n w (a .0) t (a .1) le′) in
+              (b .0, b .1);
+          stops-alike = λ twin le host lawful s ts us n e l t q lasting le′.
               let a = stopped-both (Paired sizes) (served-both m enough host lawful ts s) n e l t q in
               let b = both-stopped (Paired (sizesOf twin)) (served-both twin (enough-more m twin le enough) host lawful us s) n e (a .0) t
-                (law-holds P plans ok S sizes .stops-alike (sizesOf twin) le host s ts us n e (a .0) t (a .1) lasting le′) in
+              (law-holds P plans ok S sizes .stops-alike (sizesOf twin) le host s ts us n e (a .0) t (a .1) lasting le′) in
               let p = place-same sizes (sizesOf twin) (a .0) l (b .0) (a .2) (b .2) in
-              (b .0, b .1, p .0, p .1) }
+              (b .0, b .1, p .0, p .1);
+        }
       where
         sizes : Sizes
         sizes = sizesOf m
+
         sim : (host : Host S) → Lawful host → (c : Conf) (l : State) (s : S) → Paired sizes c l → Same (Paired sizes) (checked.step P host sizes c s) (running.step P host l s)
         sim host lawful c l s r = step-paired host lawful sizes c l s r
+
         newests : (c : Conf) (l : State) → Paired sizes c l → checked.newest c ≡ running.newest P l
         newests c l r = newest-same P plans ok sizes c l (r .0) (r .1)
+
         frames : (c : Conf) (l : State) → Paired sizes c l → (j : ℕ) → checked.frameAt c j ≡ running.frameAt P l j
         frames c l r j = frame-same P plans ok sizes c l (r .0) (r .1) j
+
         alike : (ps : List (Request S)) → AllKeepLaws ps → Alike (Paired sizes) (handleAll (checkedMachine P sizes) ps (checkedBegun P)) (handleAll (runtimeMachine P) ps (begun P m))
         alike ps l = handled-alike (Paired sizes) (checkedMachine P sizes) (runtimeMachine P) sim newests frames ps l (checkedBegun P) (begun P m) (start m enough)

@@ -12,6 +12,6 @@ module _ {S : Type 0} (host : Host S) (s : S) where
   pub record Behaves : Type 0 where
     pub lawful : Lawful (behaviour host s)
     pub machine : (P : Program) (k : ℕ) (x : Status State) (past : List Call)
-      → iterate (step P (behaviour host s)) k x past .machine ≡ iterate (step P host) k x (reached host s past) .machine
+        → iterate (step P (behaviour host s)) k x past .machine ≡ iterate (step P host) k x (reached host s past) .machine
     pub state : (P : Program) (k : ℕ) (x : Status State) (past : List Call)
-      → reached host s (iterate (step P (behaviour host s)) k x past .host) ≡ iterate (step P host) k x (reached host s past) .host
+        → reached host s (iterate (step P (behaviour host s)) k x past .host) ≡ iterate (step P host) k x (reached host s past) .host

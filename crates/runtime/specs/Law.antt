@@ -62,25 +62,25 @@ module _ (S : Type 0) (P : Program) (plans : Plans) (memory : Memory) where
     -- the checked machine, given the same start, requests and hosts, gives the same answers, refusals included, and leaves every
     -- host in the same state
     pub answers : (ps : List (Request S)) → AllKeepLaws ps
-      → responses (runtimeMachine P) ps (begun P memory) ≡ responses (checkedMachine P (sizesOf memory)) ps (checkedBegun P)
+        → responses (runtimeMachine P) ps (begun P memory) ≡ responses (checkedMachine P (sizesOf memory)) ps (checkedBegun P)
     pub cells : (ps : List (Request S)) → AllKeepLaws ps
-      → Alike (SameCells (sizesOf memory)) (handleAll (checkedMachine P (sizesOf memory)) ps (checkedBegun P)) (handleAll (runtimeMachine P) ps (begun P memory))
+        → Alike (SameCells (sizesOf memory)) (handleAll (checkedMachine P (sizesOf memory)) ps (checkedBegun P)) (handleAll (runtimeMachine P) ps (begun P memory))
     -- both go on, have ended or have stopped alike, and the slots of every frame stand for the values of the checked machine's
     pub slots : (ps : List (Request S)) → AllKeepLaws ps
-      → Alike (Represented P (sizesOf memory)) (handleAll (checkedMachine P (sizesOf memory)) ps (checkedBegun P)) (handleAll (runtimeMachine P) ps (begun P memory))
+        → Alike (Represented P (sizesOf memory)) (handleAll (checkedMachine P (sizesOf memory)) ps (checkedBegun P)) (handleAll (runtimeMachine P) ps (begun P memory))
     -- at the start and after every request it is not broken, the newest frame's stack has the depth and the kinds of the fullest plan
     -- at its place, and each older one's lacks only the awaited result
     pub kept : (ps : List (Request S)) → AllKeepLaws ps → Kept P plans (handleAll (checkedMachine P (sizesOf memory)) ps (checkedBegun P))
     -- turns with one host are requests, each with the host as the one before it left it
     pub threads : (host : Host S) (ts : List Turn) (x : Status State) (s : S)
-      → handleAll (runtimeMachine P) (threaded (runtimeMachine P) host ts x s) x ≡ serve (step P host) ts x s .machine
+        → handleAll (runtimeMachine P) (threaded (runtimeMachine P) host ts x s) x ≡ serve (step P host) ts x s .machine
     -- One host, changed by nothing but these runs, serves them all up to an end; its twin serves those of a twin machine, whatever
     -- its turns. Once the twin's allowances add up to at least the steps that the first made, it has come to the same end: word, steps and
     -- host alike
     pub ends-alike : (twin : Memory) → NoLess (sizesOf memory) (sizesOf twin) → (host : Host S) → Lawful host → (s : S) (ts us : List Turn) (n w : ℕ) (l : State) (t : S)
-      → serve (step P host) ts (begun P memory) s ≡ served (ended n w l) t → n ≤ allowance us
-      → (k : State) × (serve (step P host) us (begun P twin) s ≡ served (ended n w k) t)
+        → serve (step P host) ts (begun P memory) s ≡ served (ended n w l) t → n ≤ allowance us
+        → (k : State) × (serve (step P host) us (begun P twin) s ≡ served (ended n w k) t)
     -- the same up to a stop other than cells and calls: stop, function, place, steps and host alike
     pub stops-alike : (twin : Memory) → NoLess (sizesOf memory) (sizesOf twin) → (host : Host S) → Lawful host → (s : S) (ts us : List Turn) (n : ℕ) (e : Stop) (l : State) (t : S)
-      → serve (step P host) ts (begun P memory) s ≡ served (stopped n e l) t → Lasting e → n ≤ allowance us
-      → (k : State) × (serve (step P host) us (begun P twin) s ≡ served (stopped n e k) t) × (k .function ≡ l .function) × (k .place ≡ l .place)
+        → serve (step P host) ts (begun P memory) s ≡ served (stopped n e l) t → Lasting e → n ≤ allowance us
+        → (k : State) × (serve (step P host) us (begun P twin) s ≡ served (stopped n e k) t) × (k .function ≡ l .function) × (k .place ≡ l .place)

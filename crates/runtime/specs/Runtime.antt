@@ -59,45 +59,105 @@ wordIn l i = slot l i % 2 ^ 32
 -- goes on at q with the stack cut to `top`
 abbrev pub moved : State → ℕ → ℕ → State
 moved l q top =
-    record { function = l .function; place = q; base = l .base; slots = l .slots; top = top;
-      frames = l .frames; callers = l .callers; reserved = l .reserved; storage = l .storage }
+    record {
+      function = l .function;
+      place = q;
+      base = l .base;
+      slots = l .slots;
+      top = top;
+      frames = l .frames;
+      callers = l .callers;
+      reserved = l .reserved;
+      storage = l .storage;
+    }
 
 -- goes on at q with v in slot i, right above which the stack ends
 abbrev pub pushed : State → ℕ → ℕ → ℕ → State
 pushed l q i v =
-    record { function = l .function; place = q; base = l .base; slots = set (l .slots) i v; top = suc i;
-      frames = l .frames; callers = l .callers; reserved = l .reserved; storage = l .storage }
+    record {
+      function = l .function;
+      place = q;
+      base = l .base;
+      slots = set (l .slots) i v;
+      top = suc i;
+      frames = l .frames;
+      callers = l .callers;
+      reserved = l .reserved;
+      storage = l .storage;
+    }
 
 -- goes on at q with slot i set to v and the stack cut by one
 abbrev pub assigned : State → ℕ → ℕ → ℕ → State
 assigned l q i v =
-    record { function = l .function; place = q; base = l .base; slots = set (l .slots) i v; top = l .top - 1;
-      frames = l .frames; callers = l .callers; reserved = l .reserved; storage = l .storage }
+    record {
+      function = l .function;
+      place = q;
+      base = l .base;
+      slots = set (l .slots) i v;
+      top = l .top - 1;
+      frames = l .frames;
+      callers = l .callers;
+      reserved = l .reserved;
+      storage = l .storage;
+    }
 
 abbrev pub swapped : State → ℕ → State
 swapped l q =
-    record { function = l .function; place = q; base = l .base;
-      slots = set (set (l .slots) (l .top - 2) (slot l (l .top - 1))) (l .top - 1) (slot l (l .top - 2)); top = l .top;
-      frames = l .frames; callers = l .callers; reserved = l .reserved; storage = l .storage }
+    record {
+      function = l .function;
+      place = q;
+      base = l .base;
+      slots = set (set (l .slots) (l .top - 2) (slot l (l .top - 1))) (l .top - 1) (slot l (l .top - 2));
+      top = l .top;
+      frames = l .frames;
+      callers = l .callers;
+      reserved = l .reserved;
+      storage = l .storage;
+    }
 
 abbrev pub with-storage : State → Storage → State
 with-storage l m =
-    record { function = l .function; place = l .place; base = l .base; slots = l .slots; top = l .top;
-      frames = l .frames; callers = l .callers; reserved = l .reserved; storage = m }
+    record {
+      function = l .function;
+      place = l .place;
+      base = l .base;
+      slots = l .slots;
+      top = l .top;
+      frames = l .frames;
+      callers = l .callers;
+      reserved = l .reserved;
+      storage = m;
+    }
 
 -- a call of function c that is g, to return to q
 abbrev pub entered : State → ℕ → ℕ → Function → State
 entered l q c g =
-    record { function = c; place = 0; base = l .top - length (g .signature .arguments); slots = l .slots;
+    record {
+      function = c;
+      place = 0;
+      base = l .top - length (g .signature .arguments);
+      slots = l .slots;
       top = (l .top - length (g .signature .arguments)) + g .variables;
       frames = set (l .frames) (l .callers) (record { function = l .function; place = q; base = l .base });
-      callers = suc (l .callers); reserved = reserve (Some g) + l .reserved; storage = l .storage }
+      callers = suc (l .callers);
+      reserved = reserve (Some g) + l .reserved;
+      storage = l .storage;
+    }
 
 -- a return of the value v from function g to the frame k
 abbrev pub left : State → Function → FrameRecord → ℕ → State
 left l g k v =
-    record { function = k .function; place = k .place; base = k .base; slots = set (l .slots) (l .base) v; top = suc (l .base);
-      frames = l .frames; callers = l .callers - 1; reserved = l .reserved - reserve (Some g); storage = l .storage }
+    record {
+      function = k .function;
+      place = k .place;
+      base = k .base;
+      slots = set (l .slots) (l .base) v;
+      top = suc (l .base);
+      frames = l .frames;
+      callers = l .callers - 1;
+      reserved = l .reserved - reserve (Some g);
+      storage = l .storage;
+    }
 
 -- ## One instruction without a host
 
@@ -213,11 +273,12 @@ numbersOf l n = numbersFrom (n .signature .arguments) (l .slots) (firstArgument 
 
 abbrev pub callOf : Program → State → Native → Call
 callOf P l n =
-    record
-      { index = n .index
-      ; arguments = argumentsFrom (n .signature .arguments) (l .slots) (firstArgument l n)
-      ; first = textIn (P .strings) (nth (numbersOf l n) 0)
-      ; second = textIn (P .strings) (nth (numbersOf l n) 1) }
+    record {
+      index = n .index;
+      arguments = argumentsFrom (n .signature .arguments) (l .slots) (firstArgument l n);
+      first = textIn (P .strings) (nth (numbersOf l n) 0);
+      second = textIn (P .strings) (nth (numbersOf l n) 1);
+    }
 
 -- an argument given back by its number among the references
 abbrev pub handed : State → ℕ → ℕ → Option ℕ → Came
@@ -296,8 +357,17 @@ module _ {S : Type 0} where
 -- main's frame alone, at place 0, over these slots, frame records and storage
 abbrev pub begins : Program → List ℕ → List FrameRecord → Storage → State
 begins P mem frames storage =
-    record { function = 0; place = 0; base = 0; slots = mem; top = variablesAt P 0; frames = frames; callers = 0;
-      reserved = variablesAt P 0 + 32; storage = storage }
+    record {
+      function = 0;
+      place = 0;
+      base = 0;
+      slots = mem;
+      top = variablesAt P 0;
+      frames = frames;
+      callers = 0;
+      reserved = variablesAt P 0 + 32;
+      storage = storage;
+    }
 
 -- a frame of function f at place p whose slots go from base up to top
 abbrev pub viewOf : Program → ℕ → ℕ → ℕ → ℕ → View

@@ -12,7 +12,6 @@ ghost use Rattle.reader.specs.View.{programOf, functionIn, nativeIn, Fitting};
 ghost use Rattle.shapes.specs.Acts.{kindsOf};
 ghost use Rattle.shapes.specs.Records.{shapeIn, Tidy};
 ghost use Rattle.verifier.specs.Acting.{actsAs, padded};
-
 use bytecode::instruction::Instruction;
 use bytecode::kind::Kind;
 use bytecode::refusal::CodeFault;
@@ -60,7 +59,10 @@ fn call_function(package: &Package, function: usize) -> Option<StackAct>
     if function >= package.function_count {
         return None;
     }
-    Some(StackAct::Fixed(function_arguments(package, function), Some(package.result_kind(function))))
+    Some(StackAct::Fixed(
+        function_arguments(package, function),
+        Some(package.result_kind(function)),
+    ))
 }
 
 // A call of a native; none if there is no such native.
@@ -71,14 +73,21 @@ fn call_native(package: &Package, native: usize) -> Option<StackAct>
     if native >= package.native_count {
         return None;
     }
-    Some(StackAct::Fixed(native_arguments(package, native), Some(package.native_result_kind(native))))
+    Some(StackAct::Fixed(
+        native_arguments(package, native),
+        Some(package.native_result_kind(native)),
+    ))
 }
 
 // A constant of a pool with so many entries.
 fn constant(index: usize, count: usize, kind: Kind) -> Option<StackAct>
     ensures { λ r. ⌜ within index count (fixed [] (kind ∷ [])) ≡ actsAs r ⌝ }
 {
-    if index < count { Some(StackAct::Fixed(Kinds::none(), Some(kind))) } else { None }
+    if index < count {
+        Some(StackAct::Fixed(Kinds::none(), Some(kind)))
+    } else {
+        None
+    }
 }
 
 // What an instruction of a function does; none if its index lies outside its pool.
@@ -94,7 +103,10 @@ fn act_of(package: &Package, function: usize, instruction: Instruction) -> Optio
         Instruction::Pop => Some(StackAct::Pop),
         Instruction::Dup => Some(StackAct::Dup),
         Instruction::Swap => Some(StackAct::Swap),
-        Instruction::AconstNull | Instruction::New(_) => Some(StackAct::Fixed(Kinds::none(), Some(reference))),
+        Instruction::AconstNull | Instruction::New(_) => Some(StackAct::Fixed(
+            Kinds::none(),
+            Some(reference),
+        )),
         Instruction::Aldc(index) => constant(index as usize, package.string_size, reference),
         Instruction::Bipush(_) => Some(StackAct::Fixed(Kinds::none(), Some(word))),
         Instruction::Ildc(index) => constant(index as usize, package.integer_count, word),
@@ -107,16 +119,29 @@ fn act_of(package: &Package, function: usize, instruction: Instruction) -> Optio
         Instruction::Invokenative(index) => call_native(package, index as usize),
         Instruction::Return => Some(StackAct::Give(package.result_kind(function))),
         Instruction::Newarray(_) => Some(StackAct::Fixed(Kinds::one(word), Some(reference))),
-        Instruction::Arraylength | Instruction::Imload | Instruction::Cmload => Some(StackAct::Fixed(Kinds::one(reference), Some(word))),
-        Instruction::Aaddf(_) | Instruction::Amload => Some(StackAct::Fixed(Kinds::one(reference), Some(reference))),
+        Instruction::Arraylength | Instruction::Imload | Instruction::Cmload =>
+            Some(StackAct::Fixed(Kinds::one(reference), Some(word))),
+        Instruction::Aaddf(_) | Instruction::Amload => Some(StackAct::Fixed(
+            Kinds::one(reference),
+            Some(reference),
+        )),
         Instruction::Aadds => Some(StackAct::Fixed(Kinds::two(reference, word), Some(reference))),
-        Instruction::Imstore | Instruction::Cmstore => Some(StackAct::Fixed(Kinds::two(reference, word), None)),
+        Instruction::Imstore | Instruction::Cmstore => Some(StackAct::Fixed(
+            Kinds::two(reference, word),
+            None,
+        )),
         Instruction::Amstore => Some(StackAct::Fixed(Kinds::two(reference, reference), None)),
     }
 }
 
 // Applies an instruction at a place of a function, or answers the first check that it fails.
-pub(crate) fn apply(package: &Package, function: usize, place: usize, instruction: Instruction, shape: &mut ShapeRecord) -> Result<(), Refusal>
+pub(crate) fn apply(
+    package: &Package,
+    function: usize,
+    place: usize,
+    instruction: Instruction,
+    shape: &mut ShapeRecord,
+) -> Result<(), Refusal>
     requires fitting { ⌜ Fitting (now «package») ⌝ }
     requires inside { ⌜ function < now «package» .«function_count» ⌝ }
     requires tidy { ⌜ Tidy (now shape) ⌝ }
@@ -125,7 +150,11 @@ pub(crate) fn apply(package: &Package, function: usize, place: usize, instructio
 {
     match act_of(package, function, instruction) {
         Some(act) => shape.perform(&act, package.variables(function), function, place),
-        None => Err(Refusal::Code { fault: CodeFault::PoolIndex, function, place }),
+        None => Err(Refusal::Code {
+            fault: CodeFault::PoolIndex,
+            function,
+            place,
+        }),
     }
 }
 

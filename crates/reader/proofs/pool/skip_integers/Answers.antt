@@ -1,7 +1,4 @@
-<<<<<<< HEAD
 use Prim.Native.Nat.{ℕ, _+_, _*_}
-=======
->>>>>>> reader
 use mathlib.Core.Path.{_≡_, _∙_, ap}
 use native.Mathlib.Omega.{arith}
 use Rattle.std.proofs.shelf.Results.{err-from-errBy}
