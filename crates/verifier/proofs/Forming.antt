@@ -13,14 +13,14 @@ use Rattle.bytecode.specs.Program.{Function, Native, Program}
 use Rattle.plan.specs.Programs.{nth, Known, AllKnown, noFunction, functionAt, FormedFunction, KnownSignature, WellFormed}
 use Rattle.plan.proofs.Indexing.{nth-inside, nth-getD}
 use Rattle.reader.specs.declared.package.Package.{Package}
-use Rattle.reader.specs.View.{programOf, Told, FunctionFormed, NativeFormed, noNative, Fitting}
+use Rattle.reader.specs.View.{programOf, KnownKind, FunctionFormed, NativeFormed, noNative, Fitting}
 
-known : (k : Kind) → Told k → Known k
+known : (k : Kind) → KnownKind k → Known k
 known Unknown h = absurd h
 known Word h = tt
 known Reference h = tt
 
-all-known : (ks : List Kind) → All Told ks → AllKnown ks
+all-known : (ks : List Kind) → All KnownKind ks → AllKnown ks
 all-known [] h = tt
 all-known (k ∷ ks) h = (known k (h .0), all-known ks (h .1))
 
