@@ -1,7 +1,7 @@
 -- The parts that are known of a package, put together, and what they say of the program.
 use Prim.Native.Nat.{ℕ, _+_, _*_, _<_, _≤_}
-use mathlib.Core.Path.{_≡_, _∙_, sym, ap}
-use mathlib.Core.Bool.{Bool, true, false, cond}
+use mathlib.Core.Path.{_≡_, _∙_}
+use mathlib.Core.Bool.{true, false, cond}
 use mathlib.Core.List.{List, [], _∷_, map}
 use native.Mathlib.Omega.{arith}
 use denote.Ref.{now}
@@ -13,7 +13,7 @@ use Rattle.std.specs.shelf.Lists.{All}
 use Rattle.bytecode.specs.declared.kind.Kind.the-variants.{Word, Reference}
 use Rattle.reader.specs.Fields.{byte, four, bytesFrom}
 use Rattle.reader.specs.Layout.{kindOf}
-use Rattle.reader.specs.View.{functionOf, nativeOf, programOf, codeSize, Told, FrontFits, FunctionFits, FunctionLettered, FunctionsKnown, FunctionFormed, NativeFits, NativeLettered, NativesKnown, NativeFormed, Fitting}
+use Rattle.reader.specs.View.{functionOf, nativeOf, programOf, codeSize, KnownKind, FrontFits, FunctionFits, FunctionLettered, FunctionsKnown, FunctionFormed, NativeFits, NativeLettered, NativesKnown, NativeFormed, Fitting}
 use Rattle.reader.specs.declared.package.Package.{Package}
 use Rattle.reader.specs.declared.package.Function.{Function}
 use Rattle.reader.specs.declared.package.Native.{Native}
@@ -26,12 +26,12 @@ mapped-length f xs n l = length-map (take n xs) f ∙ length-take-le n xs l
 
 -- ## Every letter tells a kind
 
-letter-told : (x : ℕ) → Told (kindOf x)
-letter-told x = elim (eqb x 0x77) as (λ b. Told (cond b Word Reference)) [ true ↦ tt | false ↦ tt ]
+letter-known : (x : ℕ) → KnownKind (kindOf x)
+letter-known x = elim (eqb x 0x77) as (λ b. KnownKind (cond b Word Reference)) [ true ↦ tt | false ↦ tt ]
 
-letters-told : (xs : List ℕ) → All Told (map kindOf xs)
-letters-told [] = tt
-letters-told (x ∷ xs) = (letter-told x, letters-told xs)
+letters-known : (xs : List ℕ) → All KnownKind (map kindOf xs)
+letters-known [] = tt
+letters-known (x ∷ xs) = (letter-known x, letters-known xs)
 
 -- ## Functions and natives within the limits
 
@@ -45,15 +45,15 @@ function-formed bs f h k =
       few = omega (arith, n, h .few);
       narrow = h .narrow;
       ordered = omega (arith, m, h .ordered);
-      takes = letters-told (bytesFrom bs (f .kinds + 1) (f .arguments));
-      gives = letter-told (byte bs (f .kinds));
+      takes = letters-known (bytesFrom bs (f .kinds + 1) (f .arguments));
+      gives = letter-known (byte bs (f .kinds));
     }
 
 native-formed : (bs : List ℕ) (f : Native) → NativeFits f → NativeLettered bs f → NativeFormed (nativeOf bs f)
 native-formed bs f h k =
     let m : length (map kindOf (bytesFrom bs (f .kinds + 1) (f .arguments))) ≡ f .arguments =
     length-map (bytesFrom bs (f .kinds + 1) (f .arguments)) kindOf ∙ bytes-length bs (f .kinds + 1) (f .arguments) k in
-    record { few = omega (arith, m, h); takes = letters-told (bytesFrom bs (f .kinds + 1) (f .arguments)); gives = letter-told (byte bs (f .kinds)) }
+    record { few = omega (arith, m, h); takes = letters-known (bytesFrom bs (f .kinds + 1) (f .arguments)); gives = letter-known (byte bs (f .kinds)) }
 
 functions-formed : (bs : List ℕ) (fs : List Function) → All (FunctionFits bs) fs → All (FunctionLettered bs) fs → All FunctionFormed (map (functionOf bs) fs)
 functions-formed bs [] h k = tt

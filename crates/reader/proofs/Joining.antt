@@ -1,17 +1,16 @@
 -- Pools and sheet together are the functions and natives of the program.
-use Prim.Native.Nat.{ℕ, zero, suc, _+_, _<_, _≤_}
-use mathlib.Core.Path.{_≡_, refl, sym, ap, _∙_, subst}
+use Prim.Native.Nat.{ℕ, _+_, _<_, _≤_}
+use mathlib.Core.Path.{_≡_, refl, sym, ap, _∙_}
 use mathlib.Core.List.{List, [], _∷_, map}
-use mathlib.Core.Bool.{Bool, true, cond}
 use native.Mathlib.Omega.{arith}
 use borrow.Author.Tests.{eq-eqb}
 use lib.ListN.{length, take, getD}
 use lib.Dec.{eqb}
-use Rattle.std.proofs.shelf.Lists.{getD-take, getD-map, length-take-le, length-map}
+use Rattle.std.proofs.shelf.Lists.{getD-take, length-take-le}
 use Rattle.std.proofs.shelf.Tests.{cond-true}
 use Rattle.std.specs.shelf.Lists.{All}
 use Rattle.bytecode.specs.declared.kind.Kind.the-variants.{Word}
-use Rattle.bytecode.specs.Outcome.{Out, good, bad, bind, refuse}
+use Rattle.bytecode.specs.Outcome.{Out, good, bind, refuse}
 use Rattle.bytecode.specs.Program as program
 use Rattle.bytecode.specs.Program.{Signature}
 use Rattle.reader.specs.Fields.{byte, bytesFrom, test}

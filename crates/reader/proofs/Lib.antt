@@ -1,5 +1,5 @@
 mod Repeating
-mod Fits
-mod Places
+pub mod Fits
+pub mod Places
 mod Turns
 mod Joining

@@ -1,12 +1,11 @@
 -- What stands at an index of the program's lists, by where it lies in the package.
 use Prim.Native.Nat.{ℕ, _+_, _*_, _<_, _≤_}
-use mathlib.Core.Path.{_≡_, _∙_, ap, refl}
+use mathlib.Core.Path.{_≡_, _∙_, ap}
 use mathlib.Core.List.{List, map}
 use native.Mathlib.Omega.{arith}
 use lib.ListN.{length, getD, take, drop}
-use Rattle.std.proofs.shelf.Lists.{length-take-le, length-drop, length-map, getD-map, getD-take, getD-drop}
+use Rattle.std.proofs.shelf.Lists.{length-take-le, length-map, getD-map, getD-take, getD-drop}
 use Rattle.std.proofs.shelf.Counted.{getD-map-counting}
-use Rattle.bytecode.specs.declared.kind.Kind.{Kind}
 use Rattle.bytecode.specs.declared.kind.Kind.the-variants.{Unknown}
 use Rattle.reader.specs.Fields.{byte, four, bytesFrom}
 use Rattle.reader.specs.Layout.{kindOf}

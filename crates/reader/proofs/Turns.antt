@@ -5,13 +5,13 @@ use mathlib.Core.List.{List, [], _∷_, _++_, map}
 use mathlib.Core.Bool.{Bool, true, false, cond, _&&_}
 use native.Mathlib.Omega.{arith}
 use lib.ListN.{length, take, drop, set, getD}
-use Rattle.std.proofs.shelf.Lists.{take-more-set, map-push, length-take-le, length-drop, length-map, getD-map, getD-take}
+use Rattle.std.proofs.shelf.Lists.{take-more-set, map-push, length-take-le, length-map, getD-map, getD-take}
 use Rattle.std.proofs.shelf.Elements.{all-push, all-set, all-getD}
 use Rattle.std.proofs.shelf.Counted.{map-counting-more}
 use Rattle.std.specs.shelf.Lists.{All}
-use Rattle.bytecode.specs.Outcome.{Out, good, bad, bind, refuse, Fault}
-use Rattle.reader.specs.Fields.{byte, four, field, bytesFrom, bytesAt, fourAt}
-use Rattle.reader.specs.Layout.{Read, integerAt, FunctionEntry, codeBytes, isLetter, areLetters}
+use Rattle.bytecode.specs.Outcome.{good, bad, bind, Fault}
+use Rattle.reader.specs.Fields.{byte, four, bytesFrom, bytesAt}
+use Rattle.reader.specs.Layout.{integerAt, FunctionEntry, codeBytes, isLetter, areLetters}
 use Rattle.reader.specs.View.{integersFrom, functionEntryOf, noFunctionRecord, FunctionFits, FunctionsFit}
 use Rattle.reader.specs.declared.package.Function.{Function}
 use Rattle.reader.proofs.Fits.{bytes-length}

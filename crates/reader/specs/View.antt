@@ -118,10 +118,10 @@ pub record NativesKnown (bs : List ℕ) (fs : List Native) : Type 0 where
   pub lettered : All (NativeLettered bs) fs
 
 -- a kind that a letter can tell
-abbrev pub Told : Kind → Type 0
-Told Unknown = ⊥
-Told Word = Unit {0}
-Told Reference = Unit {0}
+abbrev pub KnownKind : Kind → Type 0
+KnownKind Unknown = ⊥
+KnownKind Word = Unit {0}
+KnownKind Reference = Unit {0}
 
 -- a function of the program within the limits
 pub record FunctionFormed (g : program.Function) : Type 0 where
@@ -129,13 +129,13 @@ pub record FunctionFormed (g : program.Function) : Type 0 where
   pub few : length (g .code) ≤ 4096
   pub narrow : g .variables ≤ 32
   pub ordered : length (g .signature .arguments) ≤ g .variables
-  pub takes : All Told (g .signature .arguments)
-  pub gives : Told (g .signature .result)
+  pub takes : All KnownKind (g .signature .arguments)
+  pub gives : KnownKind (g .signature .result)
 
 pub record NativeFormed (g : program.Native) : Type 0 where
   pub few : length (g .signature .arguments) ≤ 4
-  pub takes : All Told (g .signature .arguments)
-  pub gives : Told (g .signature .result)
+  pub takes : All KnownKind (g .signature .arguments)
+  pub gives : KnownKind (g .signature .result)
 
 -- what is known of every package that was read
 pub record Fitting (p : Package) : Type 0 where

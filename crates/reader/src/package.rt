@@ -1,6 +1,6 @@
 // A package that was read: where everything lies in its bytes.
 ghost use mathlib.Core.Path.{_≡_};
-ghost use Prim.Native.Nat.{ℕ, _+_, _*_, _<_, _≤_};
+ghost use Prim.Native.Nat.{_+_, _*_, _<_, _≤_};
 ghost use lib.ListN.{length, getD};
 ghost use Rattle.bytecode.specs.declared.kind.Kind.the-variants.{Unknown};
 ghost use Rattle.reader.specs.Fields.{byte as byteOf, four, bytesFrom};

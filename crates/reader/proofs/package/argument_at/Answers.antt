@@ -1,5 +1,5 @@
 use Prim.Native.Nat.{_+_}
-use mathlib.Core.Path.{_≡_, _∙_, sym}
+use mathlib.Core.Path.{_∙_, sym}
 use Rattle.reader.proofs.Places.{kind-at}
 use Rattle.reader.proofs.package.argument_at.Needs as need
 

@@ -1,4 +1,4 @@
-use mathlib.Core.Path.{_≡_, _∙_, sym}
+use mathlib.Core.Path.{_∙_, sym}
 use Rattle.reader.proofs.Places.{integer-at}
 use Rattle.reader.proofs.package.integer_at.Needs as need
 

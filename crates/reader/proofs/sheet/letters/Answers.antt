@@ -1,6 +1,6 @@
 use Prim.Native.Nat.{_+_, _-_}
-use mathlib.Core.Path.{_≡_, _∙_, ap, sym}
-use mathlib.Core.Bool.{Bool, _&&_}
+use mathlib.Core.Path.{_∙_, ap, sym}
+use mathlib.Core.Bool.{_&&_}
 use Rattle.reader.specs.Layout.{areLetters}
 use Rattle.reader.proofs.Turns.{letters-turn}
 use Rattle.reader.proofs.sheet.letters.Needs as need

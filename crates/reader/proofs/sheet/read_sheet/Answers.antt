@@ -1,4 +1,4 @@
-use mathlib.Core.Path.{_≡_, _∙_, ap}
+use mathlib.Core.Path.{_∙_, ap}
 use native.Mathlib.Omega.{arith}
 use Rattle.reader.specs.Layout.{codeBytes}
 use Rattle.reader.proofs.Joining.{sheet-joined, functions-known, code-same}
