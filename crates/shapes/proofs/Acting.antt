@@ -1,23 +1,22 @@
 -- What an act makes of a shape, case by case.
 use Prim.Native.Nat.{ℕ, zero, suc, _+_, _-_, _≤_, _<_}
 use mathlib.Core.Path.{_≡_, refl, sym, _∙_, ap}
-use mathlib.Core.List.{List, [], _∷_, _++_}
-use mathlib.Core.Bool.{Bool, true, false, _&&_}
+use mathlib.Core.List.{List, _∷_, _++_}
+use mathlib.Core.Bool.{Bool, true, false}
 use native.Mathlib.Omega.{arith}
-use lib.Dec.{ltb, leb}
-use lib.ListN.{getD, set, length, take, drop, length-set, length-drop}
+use lib.Dec.{leb}
+use lib.ListN.{getD, set, length, take, drop, length-set}
 use lib.Seq.{getD-set-same, getD-set-other}
 use borrow.Author.Tests.{lt-ltb, le-ltb, le-leb, lt-leb}
 use Rattle.std.specs.declared.option.Option.{Option}
-use Rattle.std.specs.declared.option.Option.the-variants.{Some, None}
+use Rattle.std.specs.declared.option.Option.the-variants.{Some}
 use Rattle.bytecode.specs.declared.kind.Kind.{Kind}
 use Rattle.bytecode.specs.declared.kind.Kind.the-variants.{Unknown, Word, Reference}
-use Rattle.bytecode.specs.Outcome.{Out, bad, good, bind}
+use Rattle.bytecode.specs.Outcome.{bad, good}
 use Rattle.plan.specs.Shapes.{Shape, eqKind, eqKinds}
-use Rattle.plan.specs.Effects.{Act, fixed, load, store, pop, dup, swap, alike, give, perform, check, room, replace, keeping, loaded, stored, returned, compared, swapped}
+use Rattle.plan.specs.Effects.{fixed, load, store, pop, dup, swap, alike, give, perform, check, room, keeping, loaded, stored}
 use Rattle.plan.proofs.Reaching.{eqKind-is}
-use Rattle.shapes.specs.declared.table.ShapeRecord.{ShapeRecord}
-use Rattle.shapes.specs.Records.{stackOf, shapeIn, Tidy}
+use Rattle.shapes.specs.Records.{stackOf}
 use Rattle.shapes.specs.declared.act.Kinds.{Kinds}
 use Rattle.shapes.specs.declared.act.StackAct.{StackAct}
 use Rattle.shapes.specs.declared.act.StackAct.the-variants.{Fixed, Pop, Dup, Swap, Alike, Give}

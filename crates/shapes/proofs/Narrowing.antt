@@ -7,7 +7,7 @@ use native.Mathlib.Omega.{arith}
 use native.Mathlib.Numerals.{add-one}
 use lib.ListN.{getD, set, length}
 use Rattle.bytecode.specs.declared.kind.Kind.{Kind}
-use Rattle.bytecode.specs.declared.kind.Kind.the-variants.{Unknown, Word, Reference}
+use Rattle.bytecode.specs.declared.kind.Kind.the-variants.{Unknown}
 use Rattle.plan.specs.Shapes.{eqKind, eqKinds, meetKind, meet}
 use Rattle.plan.proofs.Reaching.{eqKinds-refl, eqKind-refl}
 

@@ -1,9 +1,9 @@
 -- Stacks in arrays: by their places, and what keeps a record in order.
 use Prim.Native.Nat.{ℕ, zero, suc, _+_, _-_, _<_, _≤_}
-use mathlib.Core.Path.{_≡_, refl, sym, _∙_, ap, subst}
+use mathlib.Core.Path.{_≡_, refl, sym, _∙_, ap}
 use mathlib.Core.List.{List, [], _∷_, _++_, map, reverse}
-use mathlib.Core.Logic.{_⊎_, inl, inr, _≢_}
-use mathlib.Core.Bool.{Bool, true, false, _&&_}
+use mathlib.Core.Logic.{_⊎_, inl, inr}
+use mathlib.Core.Bool.{true, false, _&&_}
 use native.Mathlib.Omega.{arith}
 use native.Mathlib.Decide.{decLt}
 use native.Mathlib.Numerals.{add-one}
@@ -13,13 +13,12 @@ use Rattle.std.proofs.shelf.Lists.{ext-getD, length-reverse, getD-append-left, 
 use Rattle.bytecode.specs.declared.kind.Kind.{Kind}
 use Rattle.bytecode.specs.declared.kind.Kind.the-variants.{Unknown}
 use Rattle.plan.specs.Shapes.{Shape, eqKind, eqKinds}
-use Rattle.plan.specs.Sweep.{Cell, off, blank, marked, settled}
 use Rattle.shapes.specs.declared.table.ShapeRecord.{ShapeRecord}
 use Rattle.shapes.specs.declared.table.ShapeMark.{ShapeMark}
 use Rattle.shapes.specs.declared.table.ShapeMark.the-variants.{Blank, Start, Due, Shaped}
-use Rattle.shapes.specs.Records.{stackOf, shapeIn, cellAs, cellOf, entriesOf, recordWith, emptyRecord, workingRecord, HasShape, Tidy, Whole, Neat}
+use Rattle.shapes.specs.Records.{stackOf, shapeIn, cellAs, cellOf, entriesOf, emptyRecord, workingRecord, HasShape, Tidy, Whole, Neat}
 use Rattle.shapes.specs.Acts.{lowered}
-use Rattle.shapes.proofs.Narrowing.{and-true, and-false}
+use Rattle.shapes.proofs.Narrowing.{and-false}
 
 -- ## Stacks compared
 

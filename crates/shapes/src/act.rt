@@ -1,7 +1,7 @@
 // What instructions do to the stack and the variables of a shape.
 ghost use mathlib.Core.Path.{_≡_};
 ghost use mathlib.Core.List.{[], _∷_};
-ghost use Prim.Native.Nat.{ℕ, _<_, _≤_};
+ghost use Prim.Native.Nat.{_<_, _≤_};
 ghost use lib.ListN.{take};
 ghost use Rattle.bytecode.specs.Outcome.{told};
 ghost use Rattle.plan.specs.Effects.{perform as performOf, fixed, load as loadOf, store as storeOf, pop as popOf, dup as dupOf, swap as swapOf, alike, give as giveOf};

@@ -1,6 +1,6 @@
 // The records of the table, and what becomes of a record that a shape reaches.
 ghost use mathlib.Core.Path.{_≡_};
-ghost use Prim.Native.Nat.{ℕ, _≤_};
+ghost use Prim.Native.Nat.{_≤_};
 ghost use Rattle.bytecode.specs.Outcome.{told};
 ghost use Rattle.plan.specs.Shapes.{eqKinds};
 ghost use Rattle.plan.specs.Sweep.{join as joinOf};

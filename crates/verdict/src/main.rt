@@ -1,6 +1,5 @@
 // Checks a package given as hex text on standard input, and prints its verdict: `accepted` with the numbers of bytes, functions and
 // takes, or `refused` with the number of the check that failed and its place.
-use bytecode::refusal::Refusal;
 use source::hex::HexText;
 use source::hex::HexTextSource;
 use source::loader::LIMIT;

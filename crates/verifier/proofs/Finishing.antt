@@ -1,10 +1,10 @@
 -- The table when the sweep is over: the starts without a shape become blank, and the rest are the records of the shapes.
 use Prim.Native.Nat.{ℕ, zero, suc, _+_, _-_, _<_, _≤_}
-use mathlib.Core.Path.{_≡_, refl, sym, ap, _∙_, subst}
+use mathlib.Core.Path.{_≡_, refl, sym, ap, _∙_}
 use mathlib.Core.List.{List, [], _∷_, _++_, map, map-append, append-nil}
 use native.Mathlib.Omega.{arith}
 use lib.ListN.{length, getD, set, take, drop, replicate, length-map}
-use Rattle.std.proofs.shelf.Lists.{getD-default, set-getD, take-all, drop-all, length-append}
+use Rattle.std.proofs.shelf.Lists.{getD-default, set-getD, take-all, drop-all}
 use Rattle.std.proofs.shelf.Edits.{map-over-more}
 use Rattle.plan.specs.Shapes.{Shape}
 use Rattle.plan.specs.Sweep.{Cell, off, blank, marked, settled, Table, at, shapeOf}
@@ -44,9 +44,6 @@ pub finish-all : (rs : List ShapeRecord) (i : ℕ) → length rs ≤ i → map f
 finish-all rs i l = ap (λ xs. map finished (take i rs) ++ xs) (drop-all i rs l) ∙ append-nil (map finished (take i rs)) ∙ ap (map finished) (take-all i rs l)
 
 -- ## The records of the shapes
-
-abbrev Unmarked : Table → Type 0
-Unmarked T = (q : ℕ) (s : Shape) → at T q ≡ marked s → ⊥
 
 finished-cell : (c : Cell) → ((s : Shape) → c ≡ marked s → ⊥) → finished (workingRecord c) ≡ recordOf (shapeOf c)
 finished-cell off n = refl

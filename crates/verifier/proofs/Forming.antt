@@ -1,26 +1,24 @@
 -- A package that was read holds a well-formed program.
-use Prim.Native.Nat.{ℕ, zero, suc, _<_, _≤_}
-use mathlib.Core.Path.{_≡_, refl, sym, _∙_, ap, subst}
+use Prim.Native.Nat.{ℕ, _<_}
+use mathlib.Core.Path.{subst}
 use mathlib.Core.List.{List, [], _∷_}
 use native.Mathlib.Omega.{arith}
-use lib.ListN.{length, getD}
 use Rattle.std.specs.shelf.Lists.{All}
 use Rattle.std.proofs.shelf.Elements.{all-getD}
-use Rattle.std.specs.declared.option.Option.the-variants.{Some, None}
 use Rattle.bytecode.specs.declared.kind.Kind.{Kind}
 use Rattle.bytecode.specs.declared.kind.Kind.the-variants.{Unknown, Word, Reference}
-use Rattle.bytecode.specs.Program.{Function, Native, Program}
-use Rattle.plan.specs.Programs.{nth, Known, AllKnown, noFunction, functionAt, FormedFunction, KnownSignature, WellFormed}
+use Rattle.bytecode.specs.Program.{Function, Native}
+use Rattle.plan.specs.Programs.{Known, AllKnown, noFunction, functionAt, FormedFunction, KnownSignature, WellFormed}
 use Rattle.plan.proofs.Indexing.{nth-inside, nth-getD}
 use Rattle.reader.specs.declared.package.Package.{Package}
-use Rattle.reader.specs.View.{programOf, Told, FunctionFormed, NativeFormed, noNative, Fitting}
+use Rattle.reader.specs.View.{programOf, KnownKind, FunctionFormed, NativeFormed, noNative, Fitting}
 
-known : (k : Kind) → Told k → Known k
+known : (k : Kind) → KnownKind k → Known k
 known Unknown h = absurd h
 known Word h = tt
 known Reference h = tt
 
-all-known : (ks : List Kind) → All Told ks → AllKnown ks
+all-known : (ks : List Kind) → All KnownKind ks → AllKnown ks
 all-known [] h = tt
 all-known (k ∷ ks) h = (known k (h .0), all-known ks (h .1))
 

@@ -16,21 +16,19 @@ use Rattle.bytecode.specs.Outcome.{Fault, Out, bad, good, bind, shown, told}
 use Rattle.bytecode.specs.Program.{Program}
 use Rattle.plan.specs.Programs.{codeAt, WellFormed}
 use Rattle.plan.specs.Effects.{check}
-use Rattle.plan.specs.Plans.{Plan, Fullest}
-use Rattle.plan.specs.Shapes.{Shape}
-use Rattle.plan.specs.Sweep.{Cell, off, marked, Table, at, shapeOf, planOf, decodeAll, sweepAll, Judgement, judge}
-use Rattle.plan.specs.Judgement.{Settled, AllPlanned, Accepted, Refused, Accepts, Says, Judged, bytesFrom}
-use Rattle.plan.proofs.Outcomes.{On, on-good, good-bad}
+use Rattle.plan.specs.Sweep.{Cell, off, Table, shapeOf, planOf, decodeAll, sweepAll, Judgement, judge}
+use Rattle.plan.specs.Judgement.{Accepted, Refused, Says, Judged, bytesFrom}
+use Rattle.plan.proofs.Outcomes.{On, good-bad}
 use Rattle.plan.proofs.Judging.{judged}
 use Rattle.reader.specs.Layout.{packageAt}
 use Rattle.reader.specs.View.{codeSize}
 use Rattle.shapes.specs.declared.table.ShapeRecord.{ShapeRecord}
 use Rattle.shapes.specs.Records.{recordOf, blankRecord, noRecord}
 use Rattle.verifier.specs.declared.program.Accepted.{Accepted as Answer}
-use Rattle.verifier.specs.Fresh.{joinedFrom, filled}
+use Rattle.verifier.specs.Fresh.{filled}
 use Rattle.verifier.specs.Swept.{finished, workingAll}
-use Rattle.verifier.specs.Checking.{Verdict, checkOf, answered, answerOf, records, allRecords, tableAfter, tablesIn, Shows, ShownPlans, NoPlans, Decides}
-use Rattle.verifier.proofs.Parts.{bytes-all, bytes-in}
+use Rattle.verifier.specs.Checking.{Verdict, checkOf, answered, answerOf, records, allRecords, tableAfter, tablesIn, Shows, Decides}
+use Rattle.verifier.proofs.Parts.{bytes-all}
 use Rattle.verifier.proofs.Finishing.{finished-all}
 
 -- ## Step by step

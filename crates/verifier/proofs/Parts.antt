@@ -1,15 +1,15 @@
 -- Parts of the table: one for each function, joined in pool order, and blank records behind them.
 use Prim.Native.Nat.{ℕ, zero, suc, _+_, _-_, _<_, _≤_}
 use mathlib.Core.Path.{_≡_, refl, sym, ap, _∙_, subst}
-use mathlib.Core.List.{List, [], _∷_, _++_, append-nil, append-assoc, map}
+use mathlib.Core.List.{List, _++_, append-nil, append-assoc}
 use native.Mathlib.Omega.{arith}
 use native.Mathlib.Numerals.{add-one}
-use lib.ListN.{length, take, drop, replicate, getD}
+use lib.ListN.{length, take, drop, replicate}
 use lib.Seq.{take-add}
 use borrow.Rule.Slice.PartMut.{putMid}
 use Rattle.std.proofs.shelf.Parts.{between-putMid, drop-putMid}
-use Rattle.std.proofs.shelf.Lists.{at-drop-more, at-drop-all, take-append-drop, take-at, drop-at, drop-drop, drop-replicate, length-take-le, length-append, length-replicate}
-use Rattle.bytecode.specs.Program.{Function, Program}
+use Rattle.std.proofs.shelf.Lists.{at-drop-more, at-drop-all, take-append-drop, take-at, drop-at, drop-drop, drop-replicate, length-take-le, length-append}
+use Rattle.bytecode.specs.Program.{Program}
 use Rattle.plan.specs.Programs.{noFunction, codeAt}
 use Rattle.plan.specs.Judgement.{bytesFrom}
 use Rattle.reader.specs.View.{codeSize}

@@ -1,15 +1,15 @@
 -- Sweeping one function after another.
-use Prim.Native.Nat.{ℕ, zero, suc, _+_, _-_, _*_, _<_, _≤_}
+use Prim.Native.Nat.{ℕ, zero, suc, _+_, _-_, _<_}
 use mathlib.Core.Path.{_≡_, refl, sym, ap, _∙_, subst}
-use mathlib.Core.List.{List, [], _∷_, _++_, map}
+use mathlib.Core.List.{List, _++_, map}
 use native.Mathlib.Omega.{arith}
 use native.Mathlib.Numerals.{add-one}
-use lib.ListN.{length, take, drop, replicate, length-map}
+use lib.ListN.{length, length-map}
 use Rattle.std.specs.Vec.{made}
 use Rattle.std.specs.declared.result.Result.{Result}
 use Rattle.std.specs.declared.result.Result.the-variants.{Ok, Err}
 use Rattle.bytecode.specs.declared.refusal.Refusal.{Refusal}
-use Rattle.bytecode.specs.Outcome.{Fault, Out, bad, good, bind, told}
+use Rattle.bytecode.specs.Outcome.{Fault, bad, good, bind, told}
 use Rattle.bytecode.specs.Program.{Program}
 use Rattle.plan.specs.Programs.{codeAt, WellFormed}
 use Rattle.plan.specs.Sweep.{Table, Answer, sweepFunction, Judgement, after, sweepFrom}

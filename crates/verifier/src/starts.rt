@@ -1,14 +1,13 @@
 // Decoding: marks the starts of a code in the table.
 ghost use mathlib.Core.Path.{_≡_};
 ghost use mathlib.Core.List.{map};
-ghost use Prim.Native.Nat.{ℕ, _+_, _-_, _<_, _≤_};
+ghost use Prim.Native.Nat.{_+_, _-_, _<_, _≤_};
 ghost use lib.ListN.{length, take, drop, replicate};
 ghost use Rattle.std.specs.Vec.{made};
 ghost use Rattle.bytecode.specs.Instructions.{startsOf};
 ghost use Rattle.bytecode.specs.Outcome.{told};
 ghost use Rattle.verifier.specs.Fresh.{marksStart, freshRecord, freshAll, allStarts, AllDecoded};
 ghost use mathlib.Core.Bool.{false as no-start};
-ghost use Rattle.bytecode.specs.Outcome.{good};
 ghost use Rattle.plan.specs.Programs.{codeAt};
 ghost use Rattle.plan.specs.Plans.{startsAt};
 ghost use Rattle.plan.specs.Sweep.{decodeAll};

@@ -1,11 +1,10 @@
 // The marked places of a function's part of the table.
 ghost use mathlib.Core.Path.{_≡_};
 ghost use mathlib.Core.List.{map};
-ghost use Prim.Native.Nat.{ℕ, _+_, _<_, _≤_};
-ghost use lib.ListN.{length, getD};
+ghost use Prim.Native.Nat.{_+_, _<_, _≤_};
+ghost use lib.ListN.{length};
 ghost use Rattle.std.specs.Vec.{made};
 ghost use Rattle.bytecode.specs.Outcome.{told};
-ghost use Rattle.bytecode.specs.Instructions.{sizeOf};
 ghost use Rattle.plan.specs.Plans.{successors};
 ghost use Rattle.plan.specs.Sweep.{lowest as lowestOf, put as putOf, spread as spreadOf};
 ghost use Rattle.shapes.specs.Records.{cellOf, shapeIn, Tidy, Neat};
@@ -71,8 +70,10 @@ pub(crate) fn spread(table: &mut [ShapeRecord], shape: &ShapeRecord, function: u
     match flow_of(instruction) {
         Flow::Next => go_on(table, shape, function, place, next, place + 1),
         Flow::Branch(offset) => {
-            let low = go_on(table, shape, function, place, next, place + 1)?;
-            go_on(table, shape, function, place, target(place, offset), low)
+            let goal = target(place, offset);
+            let (first, second) = (next, goal);
+            let low = go_on(table, shape, function, place, first, place + 1)?;
+            go_on(table, shape, function, place, second, low)
         }
         Flow::Jump(offset) => go_on(table, shape, function, place, target(place, offset), place + 1),
         Flow::End => Ok(place + 1),

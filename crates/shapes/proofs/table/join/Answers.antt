@@ -1,4 +1,4 @@
-use mathlib.Core.Path.{sym, _∙_, _≡_, ap}
+use mathlib.Core.Path.{sym, _∙_, ap}
 use mathlib.Core.Logic.{inl}
 use lib.ListN.{length}
 use Rattle.plan.proofs.Reaching.{length-meet}

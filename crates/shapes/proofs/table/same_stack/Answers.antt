@@ -1,4 +1,4 @@
-use mathlib.Core.Path.{sym, _∙_, _≡_}
+use mathlib.Core.Path.{sym}
 use native.Mathlib.Omega.{arith}
 use borrow.Author.Count.{below-more}
 use Rattle.shapes.proofs.Stacks.{depths-differ, stacks-differ, stacks-same}

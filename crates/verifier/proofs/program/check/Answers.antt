@@ -1,5 +1,5 @@
-use mathlib.Core.Path.{_≡_, sym, _∙_, ap}
-use lib.ListN.{length, replicate}
+use mathlib.Core.Path.{sym}
+use lib.ListN.{length}
 use Rattle.std.specs.declared.result.Result.the-variants.{Ok, Err}
 use Rattle.verifier.proofs.Judging.{decided, same-room, accepted-table, refused-table, blank-filled}
 use Rattle.verifier.proofs.program.check.Needs as need
@@ -21,6 +21,7 @@ returns-in-Ok c =
     record
       { met = met
       ; memory = memory
+      ; lent = c .in-Ok .ensures tt .lent
       ; checked = c .in-Ok .ensures tt .checked
       ; decides = decided bytes room (Ok (c .in-Ok .accepted)) (c .drop-starts .last .table) formed met memory }
 
@@ -34,4 +35,4 @@ returns-in-Err c =
     let memory =
       refused-table bytes m room (c .fill .ensures .len) formed (c .in-Err .refusal) (c .fill-in-Err .last .self) (c .in-Err .ensures tt .met)
         (blank-filled _ _ _ _ (c .fill-in-Err .ensures .after (λ y h. h)) (c .blank-record-in-Err .ensures) (c .judge .kept .table)) in
-    record { met = met; memory = memory; checked = tt; decides = decided bytes room (Err (c .in-Err .refusal)) (c .fill-in-Err .last .self) formed met memory }
+    record { met = met; memory = memory; lent = tt; checked = tt; decides = decided bytes room (Err (c .in-Err .refusal)) (c .fill-in-Err .last .self) formed met memory }

@@ -1,10 +1,9 @@
-use Prim.Native.Nat.{ℕ, _≤_}
-use mathlib.Core.Path.{_≡_, sym, _∙_, ap}
+use mathlib.Core.Path.{sym, _∙_, ap}
 use native.Mathlib.Omega.{arith}
 use lib.ListN.{length}
 use Rattle.std.proofs.shelf.Results.{err-from-errBy}
 use Rattle.bytecode.specs.Program.{Program}
-use Rattle.reader.specs.View.{programOf, codeSize}
+use Rattle.reader.specs.View.{programOf}
 use Rattle.verifier.specs.Fresh.{allStarts}
 use Rattle.verifier.specs.Swept.{allTables, workingAll}
 use Rattle.verifier.specs.Checking.{answered, tablesIn}
@@ -19,6 +18,7 @@ returns-in-Break-package c =
     (record
       { met = ap answered (check-unread (c .args .bytes .now) (length (c .args .table .now)) _ (c .in-Break-package .ensures tt .met))
       ; memory = tt
+      ; lent = tt
       ; checked = tt
       ; formed = unread-formed _ _ (c .in-Break-package .ensures tt .met) })
 
@@ -31,6 +31,7 @@ returns-then-table-package c =
           (check-small (c .args .bytes .now) (length (c .args .table .now)) (programOf k) (c .in-Continue-package .ensures tt .met)
             (omega (arith, c .in-Continue-package .ensures tt .fitting .codeSum, c .if-table-package .taken)))
       ; memory = tt
+      ; lent = tt
       ; checked = tt
       ; formed = formed-only _ (programOf k) (c .in-Continue-package .ensures tt .met) (well-formed k (c .in-Continue-package .ensures tt .fitting)) }
 
@@ -45,6 +46,7 @@ returns-in-Break-mark-all c =
           (check-undecoded (c .args .bytes .now) (length (c .args .table .now)) (programOf k) (c .in-Continue-package .ensures tt .met)
             (omega (arith, c .in-Continue-package .ensures tt .fitting .codeSum, c .if-table-package .left)) _ (c .in-Break-mark-all .ensures tt .met))
       ; memory = tt
+      ; lent = tt
       ; checked = tt
       ; formed = formed-only _ (programOf k) (c .in-Continue-package .ensures tt .met) (well-formed k (c .in-Continue-package .ensures tt .fitting)) })
 
@@ -60,6 +62,7 @@ returns-in-Break-takes c =
             (omega (arith, c .in-Continue-package .ensures tt .fitting .codeSum, c .if-table-package .left)) (allStarts (programOf k)) _ (c .in-Continue-mark-all .ensures tt .met)
             (c .in-Break-takes .ensures tt .met))
       ; memory = tt
+      ; lent = tt
       ; checked = tt
       ; formed = formed-only _ (programOf k) (c .in-Continue-package .ensures tt .met) (well-formed k (c .in-Continue-package .ensures tt .fitting)) })
 
@@ -76,6 +79,7 @@ returns c =
       ; memory =
           c .in-Continue-takes .ensures tt .memory ∙ ap (λ n. workingAll n (allTables P)) (c .mark-all .kept .table) ∙
           ap (λ o. workingAll (length (c .args .table .now)) (tablesIn o)) (sym e)
+      ; lent = c .in-Continue-package .ensures tt .lent
       ; checked =
           record
             { fitting = c .in-Continue-package .ensures tt .fitting

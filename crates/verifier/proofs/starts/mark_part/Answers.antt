@@ -1,16 +1,16 @@
-use Prim.Native.Nat.{_+_, _-_}
-use mathlib.Core.Path.{_≡_, sym, _∙_, ap}
+use Prim.Native.Nat.{_-_}
+use mathlib.Core.Path.{sym, _∙_, ap}
 use mathlib.Core.List.{map}
 use native.Mathlib.Omega.{arith}
 use borrow.Author.Needs.{needs}
-use lib.ListN.{length, take, drop, length-take, length-drop}
+use lib.ListN.{length, length-take, length-drop}
 use Rattle.std.proofs.shelf.Parts.{overwrites}
 use Rattle.std.proofs.shelf.Results.{err-from-errBy}
 use Rattle.bytecode.specs.Instructions.{startsOf}
 use Rattle.bytecode.specs.Outcome.{good}
 use Rattle.plan.specs.Programs.{codeAt}
 use Rattle.reader.specs.View.{programOf}
-use Rattle.verifier.specs.Fresh.{freshRecord, marksStart}
+use Rattle.verifier.specs.Fresh.{freshRecord}
 use Rattle.verifier.proofs.Parts.{part-read, part-after}
 use Rattle.verifier.proofs.Decoding.{part-blank, starts-are}
 use Rattle.verifier.proofs.starts.mark_part.Needs as need

@@ -29,7 +29,7 @@ returns-in-Continue-low c =
     let f : SFits w16 (c .in-Branch .offset) = search needs in
     record
       { met =
-          spread-both _ _ _ _ _ _ _ _ _ (next-and _ _ _ _ _ _ (c .size .ensures .exact) (c .target .ensures ∙ ap (target (c .args .place)) (toZ-ofZ f)) (c .in-Branch .ensures tt (c .args .place))) (c .in-Continue-low .ensures tt .met)
+          spread-both _ _ _ _ _ _ _ _ _ (next-and _ _ _ _ _ _ (c .size .ensures .exact) (c .target-goal .ensures ∙ ap (target (c .args .place)) (toZ-ofZ f)) (c .in-Branch .ensures tt (c .args .place))) (c .in-Continue-low .ensures tt .met)
             (c .go-on-in-Branch-2 .ensures .met)
       ; neat = c .go-on-in-Branch-2 .ensures .neat
       ; low = c .go-on-in-Branch-2 .ensures .low }
@@ -38,7 +38,7 @@ pub returns-in-Jump : need.returns-in-Jump
 returns-in-Jump c =
     let f : SFits w16 (c .in-Jump .offset) = search needs in
     record
-      { met = spread-only _ _ _ _ _ _ _ (target-only _ _ _ (c .target-in-Jump .ensures ∙ ap (target (c .args .place)) (toZ-ofZ f)) (c .in-Jump .ensures tt (c .args .place))) (c .go-on-in-Jump .ensures .met)
+      { met = spread-only _ _ _ _ _ _ _ (target-only _ _ _ (c .target .ensures ∙ ap (target (c .args .place)) (toZ-ofZ f)) (c .in-Jump .ensures tt (c .args .place))) (c .go-on-in-Jump .ensures .met)
       ; neat = c .go-on-in-Jump .ensures .neat
       ; low = c .go-on-in-Jump .ensures .low }
 

@@ -1,5 +1,4 @@
-use mathlib.Core.Path.{sym, _∙_, _≡_, ap}
-use native.Mathlib.Omega.{arith}
+use mathlib.Core.Path.{sym, _∙_, ap}
 use Rattle.bytecode.specs.Outcome.{good}
 use Rattle.shapes.proofs.Acting.{push-full, push-fine}
 use Rattle.shapes.proofs.Stacks.{tidy-pushed, stack-pushed}

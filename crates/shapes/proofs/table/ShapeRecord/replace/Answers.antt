@@ -1,7 +1,6 @@
-use mathlib.Core.Path.{sym, _∙_, _≡_, ap}
+use mathlib.Core.Path.{sym, _∙_, ap}
 use native.Mathlib.Omega.{arith}
-use lib.ListN.{length, drop, length-drop}
-use Rattle.std.specs.declared.option.Option.the-variants.{Some, None}
+use lib.ListN.{length-drop}
 use Rattle.bytecode.specs.Outcome.{good}
 use Rattle.plan.specs.Shapes.{Shape}
 use Rattle.plan.specs.Effects.{perform, fixed}

@@ -1,4 +1,4 @@
-use mathlib.Core.Path.{sym, _∙_, _≡_, ap}
+use mathlib.Core.Path.{sym, _∙_, ap}
 use Prim.Native.Nat.{_-_}
 use lib.ListN.{getD, set, length-set}
 use Rattle.bytecode.specs.declared.kind.Kind.the-variants.{Unknown}
