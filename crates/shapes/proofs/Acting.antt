@@ -1,23 +1,22 @@
 -- What an act makes of a shape, case by case.
 use Prim.Native.Nat.{ℕ, zero, suc, _+_, _-_, _≤_, _<_}
 use mathlib.Core.Path.{_≡_, refl, sym, _∙_, ap}
-use mathlib.Core.List.{List, [], _∷_, _++_}
-use mathlib.Core.Bool.{Bool, true, false, _&&_}
+use mathlib.Core.List.{List, _∷_, _++_}
+use mathlib.Core.Bool.{Bool, true, false}
 use native.Mathlib.Omega.{arith}
-use lib.Dec.{ltb, leb}
-use lib.ListN.{getD, set, length, take, drop, length-set, length-drop}
+use lib.Dec.{leb}
+use lib.ListN.{getD, set, length, take, drop, length-set}
 use lib.Seq.{getD-set-same, getD-set-other}
 use borrow.Author.Tests.{lt-ltb, le-ltb, le-leb, lt-leb}
 use Rattle.std.specs.declared.option.Option.{Option}
-use Rattle.std.specs.declared.option.Option.the-variants.{Some, None}
+use Rattle.std.specs.declared.option.Option.the-variants.{Some}
 use Rattle.bytecode.specs.declared.kind.Kind.{Kind}
 use Rattle.bytecode.specs.declared.kind.Kind.the-variants.{Unknown, Word, Reference}
-use Rattle.bytecode.specs.Outcome.{Out, bad, good, bind}
+use Rattle.bytecode.specs.Outcome.{bad, good}
 use Rattle.plan.specs.Shapes.{Shape, eqKind, eqKinds}
-use Rattle.plan.specs.Effects.{Act, fixed, load, store, pop, dup, swap, alike, give, perform, check, room, replace, keeping, loaded, stored, returned, compared, swapped}
+use Rattle.plan.specs.Effects.{fixed, load, store, pop, dup, swap, alike, give, perform, check, room, keeping, loaded, stored}
 use Rattle.plan.proofs.Reaching.{eqKind-is}
-use Rattle.shapes.specs.declared.table.ShapeRecord.{ShapeRecord}
-use Rattle.shapes.specs.Records.{stackOf, shapeIn, Tidy}
+use Rattle.shapes.specs.Records.{stackOf}
 use Rattle.shapes.specs.declared.act.Kinds.{Kinds}
 use Rattle.shapes.specs.declared.act.StackAct.{StackAct}
 use Rattle.shapes.specs.declared.act.StackAct.the-variants.{Fixed, Pop, Dup, Swap, Alike, Give}
@@ -57,7 +56,7 @@ module _ (f p : ℕ) where
     module _ (enough : n ≤ d) where
       passed : (b : Bool) → eqKinds (take n (stackOf d xs)) (stackOf n ys) ≡ b
           → perform f p 0 (fixed (stackOf n ys) left) (record { stack = stackOf d xs; variables = vs }) ≡
-          keeping f p vs (check b (20, f, p) (room f p (left ++ drop n (stackOf d xs))))
+            keeping f p vs (check b (20, f, p) (room f p (left ++ drop n (stackOf d xs))))
       unfolding perform
       passed b e =
           let a = length-stack d xs in
@@ -71,7 +70,7 @@ module _ (f p : ℕ) where
 
       pub fixed-right : true ≡ eqKinds (take n (stackOf d xs)) (stackOf n ys)
           → perform f p 0 (fixed (stackOf n ys) left) (record { stack = stackOf d xs; variables = vs }) ≡
-          keeping f p vs (room f p (left ++ drop n (stackOf d xs)))
+            keeping f p vs (room f p (left ++ drop n (stackOf d xs)))
       fixed-right e = passed true (sym e)
 
   pub room-fine : (st vs : List Kind) → length st ≤ 32 → keeping f p vs (room f p st) ≡ good (record { stack = st; variables = vs })
@@ -164,7 +163,7 @@ module _ (f p : ℕ) where
     swap-some h l = go d h l
       where
         go : (d : ℕ) → 2 ≤ d → d ≤ length xs → perform f p 0 swap (record { stack = stackOf d xs; variables = vs }) ≡
-            good (record { stack = stackOf d (set (set xs (d - 1) (getD xs (d - 1 - 1) Unknown)) (d - 1 - 1) (getD xs (d - 1) Unknown)); variables = vs })
+          good (record { stack = stackOf d (set (set xs (d - 1) (getD xs (d - 1 - 1) Unknown)) (d - 1 - 1) (getD xs (d - 1) Unknown)); variables = vs })
         go zero h l = absurd (omega arith)
         go (suc zero) h l = absurd (omega arith)
         go (suc (suc n)) h l =
@@ -193,7 +192,7 @@ module _ (f p : ℕ) where
     alike-case b h e = go d h e
       where
         go : (d : ℕ) → 2 ≤ d → b ≡ eqKind (getD xs (d - 1) Unknown) (getD xs (d - 2) Unknown)
-            → perform f p 0 alike (record { stack = stackOf d xs; variables = vs }) ≡ keeping f p vs (check b (20, f, p) (good (drop 2 (stackOf d xs))))
+          → perform f p 0 alike (record { stack = stackOf d xs; variables = vs }) ≡ keeping f p vs (check b (20, f, p) (good (drop 2 (stackOf d xs))))
         go zero h e = absurd (omega arith)
         go (suc zero) h e = absurd (omega arith)
         go (suc (suc d)) h e =

@@ -1,13 +1,12 @@
 -- A record that a shape meets, by its mark.
-use Prim.Native.Nat.{ℕ, zero, suc, _+_, _≤_, _<_}
+use Prim.Native.Nat.{ℕ}
 use mathlib.Core.Path.{_≡_, refl, sym, _∙_, ap}
-use mathlib.Core.List.{List, [], _∷_}
+use mathlib.Core.List.{List}
 use mathlib.Core.Bool.{Bool, true, false}
-use native.Mathlib.Omega.{arith}
 use Rattle.bytecode.specs.declared.kind.Kind.{Kind}
-use Rattle.bytecode.specs.Outcome.{Out, bad, good}
-use Rattle.plan.specs.Shapes.{Shape, eqKinds, meet, Merged, same, changed, clash, narrowed, mergeIf, merge}
-use Rattle.plan.specs.Sweep.{Cell, marked, merged, join}
+use Rattle.bytecode.specs.Outcome.{bad, good}
+use Rattle.plan.specs.Shapes.{Shape, eqKinds, meet, clash, narrowed, mergeIf, merge}
+use Rattle.plan.specs.Sweep.{marked, merged, join}
 use Rattle.plan.proofs.Reaching.{eqKinds-is}
 use Rattle.shapes.specs.declared.table.ShapeMark.{ShapeMark}
 use Rattle.shapes.specs.declared.table.ShapeMark.the-variants.{Blank, Start, Due, Shaped}

@@ -8,7 +8,7 @@ use Rattle.std.proofs.shelf.Lists.{take-more, take-all, length-take-le, set-app
 use Rattle.std.specs.declared.option.Option.the-variants.{Some, None}
 use Rattle.bytecode.specs.declared.kind.Kind.{Kind}
 use Rattle.bytecode.specs.declared.kind.Kind.the-variants.{Unknown}
-use Rattle.bytecode.specs.Program.{Function, Native, Program}
+use Rattle.bytecode.specs.Program.{Function, Program}
 use Rattle.plan.specs.Programs.{nth, noFunction, functionAt}
 use Rattle.plan.specs.Plans.{entryOf}
 use Rattle.plan.specs.Effects.{fixed, callStatic, callNative}

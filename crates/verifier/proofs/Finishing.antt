@@ -1,10 +1,10 @@
 -- The table when the sweep is over: the starts without a shape become blank, and the rest are the records of the shapes.
 use Prim.Native.Nat.{ℕ, zero, suc, _+_, _-_, _<_, _≤_}
-use mathlib.Core.Path.{_≡_, refl, sym, ap, _∙_, subst}
+use mathlib.Core.Path.{_≡_, refl, sym, ap, _∙_}
 use mathlib.Core.List.{List, [], _∷_, _++_, map, map-append, append-nil}
 use native.Mathlib.Omega.{arith}
 use lib.ListN.{length, getD, set, take, drop, replicate, length-map}
-use Rattle.std.proofs.shelf.Lists.{getD-default, set-getD, take-all, drop-all, length-append}
+use Rattle.std.proofs.shelf.Lists.{getD-default, set-getD, take-all, drop-all}
 use Rattle.std.proofs.shelf.Edits.{map-over-more}
 use Rattle.plan.specs.Shapes.{Shape}
 use Rattle.plan.specs.Sweep.{Cell, off, blank, marked, settled, Table, at, shapeOf}
@@ -30,7 +30,7 @@ module _ (rs us : List ShapeRecord) (i : ℕ) (l : i < length rs) (k : i < lengt
 
   pub finish-start : getD us i noRecord .mark ≡ Start
       → set us i (record { mark = Blank; depth = getD us i noRecord .depth; stack = getD us i noRecord .stack; variables = getD us i noRecord .variables }) ≡
-      map finished (take (i + 1) rs) ++ drop (i + 1) rs
+        map finished (take (i + 1) rs) ++ drop (i + 1) rs
   finish-start h =
       ap (λ m. set us i (record { mark = m; depth = getD us i noRecord .depth; stack = getD us i noRecord .stack; variables = getD us i noRecord .variables })) (sym (ap finishedMark h)) ∙ next
 
@@ -44,9 +44,6 @@ pub finish-all : (rs : List ShapeRecord) (i : ℕ) → length rs ≤ i → map f
 finish-all rs i l = ap (λ xs. map finished (take i rs) ++ xs) (drop-all i rs l) ∙ append-nil (map finished (take i rs)) ∙ ap (map finished) (take-all i rs l)
 
 -- ## The records of the shapes
-
-abbrev Unmarked : Table → Type 0
-Unmarked T = (q : ℕ) (s : Shape) → at T q ≡ marked s → ⊥
 
 finished-cell : (c : Cell) → ((s : Shape) → c ≡ marked s → ⊥) → finished (workingRecord c) ≡ recordOf (shapeOf c)
 finished-cell off n = refl
@@ -67,8 +64,8 @@ finished-tables [] n = refl
 finished-tables (T ∷ Ts) n =
     map-append finished (map workingRecord T) (workingRecords Ts) ∙
     (let a : map finished (map workingRecord T) ≡ records T = finished-table T (n 0 (omega arith)) in
-    let b : map finished (workingRecords Ts) ≡ allRecords Ts = finished-tables Ts (λ f l. n (suc f) (omega arith)) in
-    λ i. a i ++ b i)
+     let b : map finished (workingRecords Ts) ≡ allRecords Ts = finished-tables Ts (λ f l. n (suc f) (omega arith)) in
+     λ i. a i ++ b i)
 
 finished-blank : (n : ℕ) → map finished (replicate n blankRecord) ≡ replicate n blankRecord
 finished-blank zero = refl

@@ -1,16 +1,14 @@
 -- A package that was read holds a well-formed program.
-use Prim.Native.Nat.{ℕ, zero, suc, _<_, _≤_}
-use mathlib.Core.Path.{_≡_, refl, sym, _∙_, ap, subst}
+use Prim.Native.Nat.{ℕ, _<_}
+use mathlib.Core.Path.{subst}
 use mathlib.Core.List.{List, [], _∷_}
 use native.Mathlib.Omega.{arith}
-use lib.ListN.{length, getD}
 use Rattle.std.specs.shelf.Lists.{All}
 use Rattle.std.proofs.shelf.Elements.{all-getD}
-use Rattle.std.specs.declared.option.Option.the-variants.{Some, None}
 use Rattle.bytecode.specs.declared.kind.Kind.{Kind}
 use Rattle.bytecode.specs.declared.kind.Kind.the-variants.{Unknown, Word, Reference}
-use Rattle.bytecode.specs.Program.{Function, Native, Program}
-use Rattle.plan.specs.Programs.{nth, Known, AllKnown, noFunction, functionAt, FormedFunction, KnownSignature, WellFormed}
+use Rattle.bytecode.specs.Program.{Function, Native}
+use Rattle.plan.specs.Programs.{Known, AllKnown, noFunction, functionAt, FormedFunction, KnownSignature, WellFormed}
 use Rattle.plan.proofs.Indexing.{nth-inside, nth-getD}
 use Rattle.reader.specs.declared.package.Package.{Package}
 use Rattle.reader.specs.View.{programOf, KnownKind, FunctionFormed, NativeFormed, noNative, Fitting}
@@ -38,11 +36,10 @@ module _ (p : Package) (h : Fitting p) where
 
   pub well-formed : WellFormed (programOf p)
   well-formed =
-      record {
-        functions = λ f g e.
+      record
+        { functions = λ f g e.
             formed-function g (subst FunctionFormed (nth-getD (programOf p .functions) f noFunction g e)
-            (all-getD FunctionFormed (programOf p .functions) f noFunction (nth-inside (programOf p .functions) f g e) (h .formed)));
-        natives = λ n g e.
+              (all-getD FunctionFormed (programOf p .functions) f noFunction (nth-inside (programOf p .functions) f g e) (h .formed)))
+        ; natives = λ n g e.
             known-signature g (subst NativeFormed (nth-getD (programOf p .natives) n noNative g e)
-            (all-getD NativeFormed (programOf p .natives) n noNative (nth-inside (programOf p .natives) n g e) (h .nativesFormed)));
-      }
+              (all-getD NativeFormed (programOf p .natives) n noNative (nth-inside (programOf p .natives) n g e) (h .nativesFormed))) }

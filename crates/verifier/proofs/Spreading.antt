@@ -1,16 +1,15 @@
 -- A shape goes on from a place: over records, one successor after another.
-use Prim.Native.Nat.{ℕ, zero, suc, _+_, _≤_, _<_, min}
+use Prim.Native.Nat.{ℕ, zero, suc, _+_, _≤_, _<_}
 use mathlib.Core.Path.{_≡_, refl, sym, _∙_, ap, subst}
 use mathlib.Core.List.{List, [], _∷_, map}
-use mathlib.Core.Logic.{inl}
 use native.Mathlib.Omega.{arith}
-use lib.ListN.{getD, set, length, length-set}
+use lib.ListN.{getD, set, length}
 use Rattle.std.proofs.shelf.Lists.{map-set, getD-set-same}
 use Rattle.std.specs.declared.option.Option.{Option}
 use Rattle.std.specs.declared.option.Option.the-variants.{Some, None}
 use Rattle.bytecode.specs.Outcome.{Fault, Out, bad, good, bind}
 use Rattle.plan.specs.Shapes.{Shape}
-use Rattle.plan.specs.Sweep.{Cell, off, marked, settled, Table, at, join, put, spread, lowest}
+use Rattle.plan.specs.Sweep.{Cell, off, marked, Table, at, join, put, spread, lowest}
 use Rattle.shapes.specs.declared.table.ShapeMark.{ShapeMark}
 use Rattle.shapes.specs.declared.table.ShapeMark.the-variants.{Blank, Start, Due, Shaped}
 use Rattle.shapes.specs.declared.table.ShapeRecord.{ShapeRecord}

@@ -1,15 +1,15 @@
 -- Sweeping one function after another.
-use Prim.Native.Nat.{ℕ, zero, suc, _+_, _-_, _*_, _<_, _≤_}
+use Prim.Native.Nat.{ℕ, zero, suc, _+_, _-_, _<_}
 use mathlib.Core.Path.{_≡_, refl, sym, ap, _∙_, subst}
-use mathlib.Core.List.{List, [], _∷_, _++_, map}
+use mathlib.Core.List.{List, _++_, map}
 use native.Mathlib.Omega.{arith}
 use native.Mathlib.Numerals.{add-one}
-use lib.ListN.{length, take, drop, replicate, length-map}
+use lib.ListN.{length, length-map}
 use Rattle.std.specs.Vec.{made}
 use Rattle.std.specs.declared.result.Result.{Result}
 use Rattle.std.specs.declared.result.Result.the-variants.{Ok, Err}
 use Rattle.bytecode.specs.declared.refusal.Refusal.{Refusal}
-use Rattle.bytecode.specs.Outcome.{Fault, Out, bad, good, bind, told}
+use Rattle.bytecode.specs.Outcome.{Fault, bad, good, bind, told}
 use Rattle.bytecode.specs.Program.{Program}
 use Rattle.plan.specs.Programs.{codeAt, WellFormed}
 use Rattle.plan.specs.Sweep.{Table, Answer, sweepFunction, Judgement, after, sweepFrom}
@@ -84,9 +84,9 @@ module _ (P : Program) where
       let z : f + 0 ≡ f = omega arith in
       let y : f + suc i ≡ suc f + i = omega arith in
       sweep-head n f (bad e) (subst (λ g. sweepFunction P g ≡ good (sweptTable P g, sweptTakes P g)) z (d 0 (omega arith)))
-      (fault-from n (suc f) i e (omega arith)
-      (λ g l. let x : f + suc g ≡ suc f + g = omega arith in subst (λ j. sweepFunction P j ≡ good (sweptTable P j, sweptTakes P j)) x (d (suc g) (omega arith)))
-      (subst (λ j. sweepFunction P j ≡ bad e) y b))
+        (fault-from n (suc f) i e (omega arith)
+          (λ g l. let x : f + suc g ≡ suc f + g = omega arith in subst (λ j. sweepFunction P j ≡ good (sweptTable P j, sweptTakes P j)) x (d (suc g) (omega arith)))
+          (subst (λ j. sweepFunction P j ≡ bad e) y b))
 
   done-from : (n f : ℕ) → ((g : ℕ) → g < n → sweepFunction P (f + g) ≡ good (sweptTable P (f + g), sweptTakes P (f + g)))
       → sweepFrom P n f ≡ good (tablesFrom P n f, takesFrom P n f)
@@ -95,15 +95,15 @@ module _ (P : Program) where
   done-from (suc n) f d =
       let z : f + 0 ≡ f = omega arith in
       sweep-head n f (good (tablesFrom P n (suc f), takesFrom P n (suc f))) (subst (λ g. sweepFunction P g ≡ good (sweptTable P g, sweptTakes P g)) z (d 0 (omega arith)))
-      (done-from n (suc f)
-      (λ g l. let x : f + suc g ≡ suc f + g = omega arith in subst (λ j. sweepFunction P j ≡ good (sweptTable P j, sweptTakes P j)) x (d (suc g) (omega arith))))
+        (done-from n (suc f)
+          (λ g l. let x : f + suc g ≡ suc f + g = omega arith in subst (λ j. sweepFunction P j ≡ good (sweptTable P j, sweptTakes P j)) x (d (suc g) (omega arith))))
 
   pub sweep-fault : (n i : ℕ) (e : Fault) → i < n → ((g : ℕ) → g < i → sweepFunction P g ≡ good (sweptTable P g, sweptTakes P g)) → sweepFunction P i ≡ bad e
       → sweepFrom P n 0 ≡ bad e
   sweep-fault n i e h d b =
       let y : i ≡ 0 + i = omega arith in
       fault-from n 0 i e h (λ g l. let x : g ≡ 0 + g = omega arith in subst (λ j. sweepFunction P j ≡ good (sweptTable P j, sweptTakes P j)) x (d g l))
-      (subst (λ j. sweepFunction P j ≡ bad e) y b)
+        (subst (λ j. sweepFunction P j ≡ bad e) y b)
 
   pub sweep-done : (n t : ℕ) → ((g : ℕ) → g < n → sweepFunction P g ≡ good (sweptTable P g, sweptTakes P g)) → t ≡ takesFrom P n 0
       → sweepFrom P n 0 ≡ good (tablesFrom P n 0, t)

@@ -1,5 +1,5 @@
 -- One take, and the sweep from its first take on, over records.
-use Prim.Native.Nat.{ℕ, zero, suc, _+_, _-_, _*_, _≤_, _<_}
+use Prim.Native.Nat.{ℕ, zero, suc, _+_, _-_, _≤_, _<_}
 use mathlib.Core.Path.{_≡_, refl, sym, _∙_, ap, subst}
 use mathlib.Core.List.{List, [], _∷_, map}
 use mathlib.Core.Bool.{Bool, true, false}
@@ -18,9 +18,9 @@ use Rattle.plan.specs.Programs.{functionAt, codeAt, variablesAt, WellFormed}
 use Rattle.plan.specs.Shapes.{Shape}
 use Rattle.plan.specs.Effects.{effect}
 use Rattle.plan.specs.Plans.{successors, startsAt, entryOf}
-use Rattle.plan.specs.Sweep.{Cell, off, blank, marked, settled, Table, at, fresh, put, spread, lowest, applied, apply, visit, Answer, turn, run, most, sweepWithin, sweepMarks, sweepFunction}
-use Rattle.plan.proofs.Outcomes.{On, on-good}
-use Rattle.plan.proofs.Weighing.{weigh, total, total-at, total-fresh, SizedAt, SizedAll, Step, put-steps}
+use Rattle.plan.specs.Sweep.{Cell, off, blank, marked, settled, Table, at, fresh, put, spread, lowest, applied, apply, visit, turn, run, most, sweepWithin, sweepMarks, sweepFunction}
+use Rattle.plan.proofs.Outcomes.{on-good}
+use Rattle.plan.proofs.Weighing.{weigh, total, total-at, total-fresh, SizedAll, put-steps}
 use Rattle.plan.proofs.Sweeping.{visit-lighter}
 use Rattle.plan.proofs.Judging.{entry-sized, formed-at, starts-stand}
 use Rattle.shapes.specs.declared.table.ShapeMark.{ShapeMark}
@@ -41,11 +41,11 @@ settledRecord r = record { mark = Shaped; depth = r .depth; stack = r .stack; va
 module _ (P : Program) (f : ℕ) (rs : List ShapeRecord) (p : ℕ) where
   visit-applied : (o : Option Instruction) (r : Out (Shape × List (Option ℕ))) → decodeAt (codeAt P f) p ≡ o → applied P f p (shapeIn (getD rs p noRecord)) o ≡ r
       → visit P f (map cellOf rs) p (shapeIn (getD rs p noRecord)) ≡
-      bind r (λ r. spread f p (r .0) (r .1) (map cellOf (set rs p (settledRecord (getD rs p noRecord)))))
+        bind r (λ r. spread f p (r .0) (r .1) (map cellOf (set rs p (settledRecord (getD rs p noRecord)))))
   unfolding visit apply
   visit-applied o r d h =
       ap (λ a. bind a (λ r. spread f p (r .0) (r .1) (set (map cellOf rs) p (settled (shapeIn (getD rs p noRecord))))))
-      (ap (applied P f p (shapeIn (getD rs p noRecord))) d ∙ h) ∙
+        (ap (applied P f p (shapeIn (getD rs p noRecord))) d ∙ h) ∙
       ap (λ T. bind r (λ r. spread f p (r .0) (r .1) T)) (sym (map-set cellOf rs p (settledRecord (getD rs p noRecord))))
 
   pub visit-undecoded : decodeAt (codeAt P f) p ≡ None → visit P f (map cellOf rs) p (shapeIn (getD rs p noRecord)) ≡ bad (17, f, p)

@@ -2,18 +2,17 @@
 use Prim.Native.Nat.{ℕ, zero, suc, _+_, _-_, _<_, _≤_}
 use mathlib.Core.Path.{_≡_, refl, sym, ap, _∙_}
 use mathlib.Core.List.{List, [], _∷_, map}
-use mathlib.Core.Bool.{Bool, true, false, cond}
+use mathlib.Core.Bool.{Bool, true, false}
 use native.Mathlib.Omega.{arith}
 use lib.ListN.{length, set, getD, replicate}
 use lib.Dec.{ltb}
 use Rattle.std.proofs.shelf.Tests.{lt-ltb, le-ltb, cond-true, cond-false}
 use Rattle.std.proofs.shelf.Lists.{map-set}
-use Rattle.std.specs.declared.option.Option.{Option}
 use Rattle.std.specs.declared.option.Option.the-variants.{Some, None}
 use Rattle.bytecode.specs.declared.instruction.Instruction.{Instruction}
-use Rattle.bytecode.specs.Instructions.{walk, onward, decodeAt, sizeOf, startsOf}
-use Rattle.bytecode.specs.Outcome.{Out, good, bad}
-use Rattle.shapes.specs.declared.table.ShapeMark.the-variants.{Blank, Start, Due, Shaped}
+use Rattle.bytecode.specs.Instructions.{walk, onward, decodeAt, sizeOf}
+use Rattle.bytecode.specs.Outcome.{good, bad}
+use Rattle.shapes.specs.declared.table.ShapeMark.the-variants.{Start}
 use Rattle.shapes.specs.declared.table.ShapeRecord.{ShapeRecord}
 use Rattle.shapes.specs.Records.{noRecord, emptyRecord}
 use Rattle.verifier.specs.Fresh.{marksStart, freshRecord}

@@ -1,5 +1,5 @@
 -- Acts of instructions, and arguments as variables.
-use Prim.Native.Nat.{ℕ, _-_}
+use Prim.Native.Nat.{_-_}
 use mathlib.Core.List.{List, _++_}
 use lib.ListN.{length, replicate}
 use Rattle.std.specs.declared.option.Option.{Option}

@@ -2,7 +2,7 @@
 use Prim.Native.Nat.{ℕ, zero, suc}
 use mathlib.Core.List.{List, [], _∷_, _++_, map}
 use lib.ListN.{length}
-use Rattle.bytecode.specs.Outcome.{Out, bad, good}
+use Rattle.bytecode.specs.Outcome.{bad, good}
 use Rattle.bytecode.specs.Program.{Program}
 use Rattle.plan.specs.Sweep.{Table, Answer, sweepFunction}
 use Rattle.shapes.specs.declared.table.ShapeMark.{ShapeMark}

@@ -1,17 +1,17 @@
 // What each instruction does to the stack, by the pools and the sheet of its package.
 ghost use mathlib.Core.Path.{_≡_};
-ghost use mathlib.Core.List.{[], _∷_, _++_, reverse};
-ghost use Prim.Native.Nat.{ℕ, _-_, _<_, _≤_};
-ghost use lib.ListN.{length, replicate};
-ghost use Rattle.bytecode.specs.declared.kind.Kind.the-variants.{Unknown as UnknownKind};
+ghost use mathlib.Core.List.{[], _∷_, reverse};
+ghost use Prim.Native.Nat.{_-_, _<_};
 ghost use Rattle.bytecode.specs.Outcome.{told};
 ghost use Rattle.plan.specs.Programs.{nth, functionAt};
 ghost use Rattle.plan.specs.Plans.{entryOf};
-ghost use Rattle.plan.specs.Effects.{fixed, within, callStatic, callNative, actOf, effect as effectOf};
-ghost use Rattle.reader.specs.View.{programOf, functionIn, nativeIn, Fitting};
-ghost use Rattle.shapes.specs.Acts.{kindsOf};
+ghost use Rattle.plan.specs.Effects.{fixed as fixedOf, within, callStatic, callNative, actOf, effect as effectOf};
+ghost use Rattle.reader.specs.View.{programOf, nativeIn, Fitting};
+ghost use Rattle.shapes.specs.Acts.{kindsOf, oneOrNone};
+ghost use Rattle.std.specs.declared.option.Option.the-variants.{Some};
 ghost use Rattle.shapes.specs.Records.{shapeIn, Tidy};
 ghost use Rattle.verifier.specs.Acting.{actsAs, padded};
+
 use bytecode::instruction::Instruction;
 use bytecode::kind::Kind;
 use bytecode::refusal::CodeFault;
@@ -59,10 +59,7 @@ fn call_function(package: &Package, function: usize) -> Option<StackAct>
     if function >= package.function_count {
         return None;
     }
-    Some(StackAct::Fixed(
-        function_arguments(package, function),
-        Some(package.result_kind(function)),
-    ))
+    Some(StackAct::Fixed(function_arguments(package, function), Some(package.result_kind(function))))
 }
 
 // A call of a native; none if there is no such native.
@@ -73,21 +70,21 @@ fn call_native(package: &Package, native: usize) -> Option<StackAct>
     if native >= package.native_count {
         return None;
     }
-    Some(StackAct::Fixed(
-        native_arguments(package, native),
-        Some(package.native_result_kind(native)),
-    ))
+    Some(StackAct::Fixed(native_arguments(package, native), Some(package.native_result_kind(native))))
+}
+
+// An act that takes these kinds and leaves one or none.
+fn fixed(taken: Kinds, left: Option<Kind>) -> Option<StackAct>
+    ensures { λ r. ⌜ actsAs r ≡ Some (fixedOf (kindsOf taken) (oneOrNone left)) ⌝ }
+{
+    Some(StackAct::Fixed(taken, left))
 }
 
 // A constant of a pool with so many entries.
 fn constant(index: usize, count: usize, kind: Kind) -> Option<StackAct>
-    ensures { λ r. ⌜ within index count (fixed [] (kind ∷ [])) ≡ actsAs r ⌝ }
+    ensures { λ r. ⌜ within index count (fixedOf [] (kind ∷ [])) ≡ actsAs r ⌝ }
 {
-    if index < count {
-        Some(StackAct::Fixed(Kinds::none(), Some(kind)))
-    } else {
-        None
-    }
+    if index < count { fixed(Kinds::none(), Some(kind)) } else { None }
 }
 
 // What an instruction of a function does; none if its index lies outside its pool.
@@ -99,49 +96,33 @@ fn act_of(package: &Package, function: usize, instruction: Instruction) -> Optio
     let word = Kind::Word;
     let reference = Kind::Reference;
     match instruction {
-        Instruction::Nop | Instruction::Goto(_) => Some(StackAct::Fixed(Kinds::none(), None)),
+        Instruction::Nop | Instruction::Goto(_) => fixed(Kinds::none(), None),
         Instruction::Pop => Some(StackAct::Pop),
         Instruction::Dup => Some(StackAct::Dup),
         Instruction::Swap => Some(StackAct::Swap),
-        Instruction::AconstNull | Instruction::New(_) => Some(StackAct::Fixed(
-            Kinds::none(),
-            Some(reference),
-        )),
+        Instruction::AconstNull | Instruction::New(_) => fixed(Kinds::none(), Some(reference)),
         Instruction::Aldc(index) => constant(index as usize, package.string_size, reference),
-        Instruction::Bipush(_) => Some(StackAct::Fixed(Kinds::none(), Some(word))),
+        Instruction::Bipush(_) => fixed(Kinds::none(), Some(word)),
         Instruction::Ildc(index) => constant(index as usize, package.integer_count, word),
         Instruction::Vload(variable) => Some(StackAct::Load(variable as usize)),
         Instruction::Vstore(variable) => Some(StackAct::Store(variable as usize)),
-        Instruction::Binary(_) => Some(StackAct::Fixed(Kinds::two(word, word), Some(word))),
+        Instruction::Binary(_) => fixed(Kinds::two(word, word), Some(word)),
         Instruction::IfCmpeq(_) | Instruction::IfCmpne(_) => Some(StackAct::Alike),
-        Instruction::IfIcmp(_, _) => Some(StackAct::Fixed(Kinds::two(word, word), None)),
+        Instruction::IfIcmp(_, _) => fixed(Kinds::two(word, word), None),
         Instruction::Invokestatic(index) => call_function(package, index as usize),
         Instruction::Invokenative(index) => call_native(package, index as usize),
         Instruction::Return => Some(StackAct::Give(package.result_kind(function))),
-        Instruction::Newarray(_) => Some(StackAct::Fixed(Kinds::one(word), Some(reference))),
-        Instruction::Arraylength | Instruction::Imload | Instruction::Cmload =>
-            Some(StackAct::Fixed(Kinds::one(reference), Some(word))),
-        Instruction::Aaddf(_) | Instruction::Amload => Some(StackAct::Fixed(
-            Kinds::one(reference),
-            Some(reference),
-        )),
-        Instruction::Aadds => Some(StackAct::Fixed(Kinds::two(reference, word), Some(reference))),
-        Instruction::Imstore | Instruction::Cmstore => Some(StackAct::Fixed(
-            Kinds::two(reference, word),
-            None,
-        )),
-        Instruction::Amstore => Some(StackAct::Fixed(Kinds::two(reference, reference), None)),
+        Instruction::Newarray(_) => fixed(Kinds::one(word), Some(reference)),
+        Instruction::Arraylength | Instruction::Imload | Instruction::Cmload => fixed(Kinds::one(reference), Some(word)),
+        Instruction::Aaddf(_) | Instruction::Amload => fixed(Kinds::one(reference), Some(reference)),
+        Instruction::Aadds => fixed(Kinds::two(reference, word), Some(reference)),
+        Instruction::Imstore | Instruction::Cmstore => fixed(Kinds::two(reference, word), None),
+        Instruction::Amstore => fixed(Kinds::two(reference, reference), None),
     }
 }
 
 // Applies an instruction at a place of a function, or answers the first check that it fails.
-pub(crate) fn apply(
-    package: &Package,
-    function: usize,
-    place: usize,
-    instruction: Instruction,
-    shape: &mut ShapeRecord,
-) -> Result<(), Refusal>
+pub(crate) fn apply(package: &Package, function: usize, place: usize, instruction: Instruction, shape: &mut ShapeRecord) -> Result<(), Refusal>
     requires fitting { ⌜ Fitting (now «package») ⌝ }
     requires inside { ⌜ function < now «package» .«function_count» ⌝ }
     requires tidy { ⌜ Tidy (now shape) ⌝ }
@@ -150,11 +131,7 @@ pub(crate) fn apply(
 {
     match act_of(package, function, instruction) {
         Some(act) => shape.perform(&act, package.variables(function), function, place),
-        None => Err(Refusal::Code {
-            fault: CodeFault::PoolIndex,
-            function,
-            place,
-        }),
+        None => Err(Refusal::Code { fault: CodeFault::PoolIndex, function, place }),
     }
 }
 

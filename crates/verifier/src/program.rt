@@ -1,7 +1,7 @@
 // Checks a package: reads it, decodes and sweeps all of its functions, and leaves their shapes in the table.
 ghost use mathlib.Core.Path.{_≡_};
 ghost use mathlib.Core.List.{map};
-ghost use Prim.Native.Nat.{ℕ, _≤_};
+ghost use Prim.Native.Nat.{_≤_};
 ghost use lib.ListN.{length, replicate};
 ghost use Rattle.std.specs.Vec.{made};
 ghost use Rattle.bytecode.specs.Outcome.{good, told};
@@ -12,6 +12,7 @@ ghost use Rattle.reader.specs.View.{programOf, codeSize};
 ghost use Rattle.shapes.specs.Records.{blankRecord};
 ghost use Rattle.verifier.specs.Swept.{workingAll, finished};
 ghost use Rattle.verifier.specs.Checking.{checkOf, answered, answerOf, tableAfter, tablesIn, Checked, Decides};
+
 use crate::starts::mark_all;
 use crate::sweep::sweep_all;
 use bytecode::refusal::Refusal;
@@ -73,6 +74,7 @@ fn judge<'a>(bytes: &'a [u8], table: &mut [ShapeRecord]) -> Result<Accepted<'a>,
     requires blank { ⌜ now table ≡ replicate (length (now table)) blankRecord ⌝ }
     ensures met { λ r. ⌜ answered (checkOf (now (bytes .entry)) (length (now (table .entry)))) ≡ told answerOf r ⌝ }
     ensures memory { λ r. ⌜ made r (λ a. now (table .exit) ≡ workingAll (length (now (table .entry))) (tablesIn (checkOf (now (bytes .entry)) (length (now (table .entry)))))) ⌝ }
+    ensures lent { λ r. ⌜ made r (λ a. now (a .program .contents .bytes) ≡ now (bytes .entry)) ⌝ }
     ensures checked { λ r. ⌜ made r (λ a. Checked (a .program)) ⌝ }
     ensures formed { λ _. ⌜ ((P : Meaning) → packageAt (now (bytes .entry)) ≡ good P → WellFormed P) ⌝ }
 {
@@ -82,10 +84,7 @@ fn judge<'a>(bytes: &'a [u8], table: &mut [ShapeRecord]) -> Result<Accepted<'a>,
     }
     mark_all(&package, table)?;
     let takes = sweep_all(&package, table)?;
-    Ok(Accepted {
-        program: Program { contents: package },
-        takes,
-    })
+    Ok(Accepted { program: Program { contents: package }, takes })
 }
 
 /// Checks a package. If it is accepted, the table holds the fullest plan of each of its functions, one record for each byte of code;
@@ -93,6 +92,7 @@ fn judge<'a>(bytes: &'a [u8], table: &mut [ShapeRecord]) -> Result<Accepted<'a>,
 pub fn check<'a>(bytes: &'a [u8], table: &mut [ShapeRecord]) -> Result<Accepted<'a>, Refusal>
     ensures met { λ r. ⌜ answered (checkOf (now (bytes .entry)) (length (now (table .entry)))) ≡ told answerOf r ⌝ }
     ensures memory { λ _. ⌜ now (table .exit) ≡ tableAfter (length (now (table .entry))) (checkOf (now (bytes .entry)) (length (now (table .entry)))) ⌝ }
+    ensures lent { λ r. ⌜ made r (λ a. now (a .program .contents .bytes) ≡ now (bytes .entry)) ⌝ }
     ensures checked { λ r. ⌜ made r (λ a. Checked (a .program)) ⌝ }
     ensures decides { λ r. ⌜ ((P : Meaning) → packageAt (now (bytes .entry)) ≡ good P → codeSize (P .functions) ≤ length (now (table .entry)) → Decides P r (now (table .exit))) ⌝ }
 {

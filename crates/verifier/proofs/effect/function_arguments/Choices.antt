@@ -1,6 +1,5 @@
 use Prim.Native.Nat.{_≤_}
 use mathlib.Core.Path.{_≡_}
-use lib.ListN.{length}
 use Rattle.plan.specs.Programs.{functionAt}
 use Rattle.reader.specs.View.{programOf}
 use Rattle.verifier.proofs.Arguments.{laid}

@@ -1,8 +1,7 @@
-use mathlib.Core.Path.{_≡_, _∙_, ap}
+use mathlib.Core.Path.{_∙_, ap}
 use native.Mathlib.Omega.{arith}
 use Rattle.shapes.specs.declared.act.Kinds.{Kinds}
 use Rattle.reader.specs.View.{programOf, nativeIn}
-use Rattle.verifier.specs.Acting.{padded}
 use Rattle.verifier.proofs.Arguments.{laid-none, laid-step, laid-all, laid-stack}
 use Rattle.verifier.proofs.effect.native_arguments.Needs as need
 

@@ -1,4 +1,4 @@
-use mathlib.Core.Path.{sym, _∙_, _≡_, ap}
+use mathlib.Core.Path.{sym, _∙_, ap}
 use Rattle.bytecode.specs.Outcome.{good}
 use Rattle.shapes.proofs.Acting.{pop-empty, pop-some}
 use Rattle.shapes.proofs.table.ShapeRecord.pop.Needs as need

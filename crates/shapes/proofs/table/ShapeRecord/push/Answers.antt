@@ -1,5 +1,4 @@
-use mathlib.Core.Path.{sym, _∙_, _≡_, ap}
-use native.Mathlib.Omega.{arith}
+use mathlib.Core.Path.{sym, _∙_, ap}
 use Rattle.bytecode.specs.Outcome.{good}
 use Rattle.shapes.proofs.Acting.{push-full, push-fine}
 use Rattle.shapes.proofs.Stacks.{tidy-pushed, stack-pushed}
@@ -10,9 +9,8 @@ returns-then-self-ge32 c = record { met = push-full _ _ _ (c .args .self .now .d
 
 pub returns : need.returns
 returns c =
-    record {
-      met =
+    record
+      { met =
           push-fine _ _ _ (c .args .self .now .depth) _ _ (c .if-self-ge32 .left) ∙
-          ap (λ st. good (record { stack = st; variables = c .args .self .now .variables })) (sym (stack-pushed (c .args .self .now) _ (c .pre .tidy) (c .if-self-ge32 .left)));
-      tidy = tidy-pushed (c .args .self .now) _ (c .pre .tidy) (c .if-self-ge32 .left);
-    }
+          ap (λ st. good (record { stack = st; variables = c .args .self .now .variables })) (sym (stack-pushed (c .args .self .now) _ (c .pre .tidy) (c .if-self-ge32 .left)))
+      ; tidy = tidy-pushed (c .args .self .now) _ (c .pre .tidy) (c .if-self-ge32 .left) }

@@ -1,4 +1,4 @@
-use mathlib.Core.Path.{sym, _∙_, _≡_, ap}
+use mathlib.Core.Path.{sym, _∙_, ap}
 use Rattle.bytecode.specs.Outcome.{good}
 use Rattle.shapes.proofs.Acting.{alike-few, alike-case}
 use Rattle.shapes.proofs.table.ShapeRecord.take_alike.Needs as need
@@ -12,7 +12,6 @@ returns-then-not-same-kind c =
 
 pub returns : need.returns
 returns c =
-    record {
-      met = alike-case _ _ (c .args .self .now .depth) _ _ _ (c .if-self-lt2 .left) (c .if-not-same-kind .ensures tt) ∙ ap good (sym (c .lower .ensures .shape));
-      tidy = c .lower .ensures .tidy;
-    }
+    record
+      { met = alike-case _ _ (c .args .self .now .depth) _ _ _ (c .if-self-lt2 .left) (c .if-not-same-kind .ensures tt) ∙ ap good (sym (c .lower .ensures .shape))
+      ; tidy = c .lower .ensures .tidy }
