@@ -71,10 +71,10 @@ module _ (P : Program) (plans : Plans) (ok : Accepted P plans) (small : Small P)
           frame-count = refl;
           roomy = let a = enough .slots in omega arith;
           free = enough .frames;
-          heap = stands .begins (m .storage) (m .unused .used) (m .unused .count) (m .unused .cells) (m .unused .records);
+          heap = stands .begins (m .storage) (enough .unused .used) (enough .unused .count) (enough .unused .cells) (enough .unused .records);
           sized = record {
-            bytes = λ j lt. absurd (let a = m .unused .used in let b : ⊥ = omega arith in b);
-            counts = λ b lt. absurd (let a = m .unused .count in let c : ⊥ = omega arith in c);
+            bytes = λ j lt. absurd (let a = enough .unused .used in let b : ⊥ = omega arith in b);
+            counts = λ b lt. absurd (let a = enough .unused .count in let c : ⊥ = omega arith in c);
           };
         },
       )
@@ -84,9 +84,9 @@ module _ (P : Program) (plans : Plans) (ok : Accepted P plans) (small : Small P)
   same-cells : (sizes : Sizes) (c : Conf) (l : State) → Paired sizes c l → SameCells sizes c l
   same-cells sizes (conf (frame f p vs st) rest h) l r = r .1 .heap
 
-  enough-more : (m twin : Memory) → NoLess (sizesOf m) (sizesOf twin) → Enough P m → Enough P twin
-  enough-more m twin le e =
-      record { frames = (let a = le .frames in let b = e .frames in omega arith); slots = (let a = le .slots in let b = e .slots in omega arith) }
+  enough-more : (m twin : Memory) → Unused (twin .storage) → NoLess (sizesOf m) (sizesOf twin) → Enough P m → Enough P twin
+  enough-more m twin fresh le e =
+      record { unused = fresh; frames = (let a = le .frames in let b = e .frames in omega arith); slots = (let a = le .slots in let b = e .slots in omega arith) }
 
   module _ (S : Type 0) (m : Memory) (enough : Enough P m) where
     start : (k : Memory) → Enough P k → Alike (Paired (sizesOf k)) (checkedBegun P) (begun P k)
@@ -108,14 +108,14 @@ module _ (P : Program) (plans : Plans) (ok : Accepted P plans) (small : Small P)
           slots = λ ps l. alike-weaker (Paired sizes) (Represented P sizes) (λ c d r. r .1) (alike ps l);
           kept = λ ps l. law-holds P plans ok S sizes .kept ps l;
           threads = λ host ts x s. threads (runtimeMachine P) host ts x s;
-          ends-alike = λ twin le host lawful s ts us n w l t q le′.
+          ends-alike = λ twin fresh le host lawful s ts us n w l t q le′.
               let a = ended-both (Paired sizes) (served-both m enough host lawful ts s) n w l t q in
-              let b = both-ended (Paired (sizesOf twin)) (served-both twin (enough-more m twin le enough) host lawful us s) n w (a .0) t
+              let b = both-ended (Paired (sizesOf twin)) (served-both twin (enough-more m twin fresh le enough) host lawful us s) n w (a .0) t
               (law-holds P plans ok S sizes .ends-alike (sizesOf twin) le host s ts us n w (a .0) t (a .1) le′) in
               (b .0, b .1);
-          stops-alike = λ twin le host lawful s ts us n e l t q lasting le′.
+          stops-alike = λ twin fresh le host lawful s ts us n e l t q lasting le′.
               let a = stopped-both (Paired sizes) (served-both m enough host lawful ts s) n e l t q in
-              let b = both-stopped (Paired (sizesOf twin)) (served-both twin (enough-more m twin le enough) host lawful us s) n e (a .0) t
+              let b = both-stopped (Paired (sizesOf twin)) (served-both twin (enough-more m twin fresh le enough) host lawful us s) n e (a .0) t
               (law-holds P plans ok S sizes .stops-alike (sizesOf twin) le host s ts us n e (a .0) t (a .1) lasting le′) in
               let p = place-same sizes (sizesOf twin) (a .0) l (b .0) (a .2) (b .2) in
               (b .0, b .1, p .0, p .1);

@@ -33,13 +33,13 @@ pub record Memory : Type 0 where
   pub slots : List ℕ
   pub frames : List FrameRecord
   pub storage : Storage
-  pub unused : Unused storage
 
 abbrev pub sizesOf : Memory → Sizes
 sizesOf m = record { slots = length (m .slots); frames = length (m .frames); cells = length (m .storage .cells); records = length (m .storage .records) }
 
--- memory in which a program may be started: a frame, and what main reserves
+-- memory in which a program may be started: nothing of its storage is used, there is a frame, and what main reserves
 pub record Enough (P : Program) (m : Memory) : Type 0 where
+  pub unused : Unused (m .storage)
   pub frames : 1 ≤ length (m .frames)
   pub slots : variablesAt P 0 + 32 ≤ length (m .slots)
 
@@ -77,10 +77,10 @@ module _ (S : Type 0) (P : Program) (plans : Plans) (memory : Memory) where
     -- One host, changed by nothing but these runs, serves them all up to an end; its twin serves those of a twin machine, whatever
     -- its turns. Once the twin's allowances add up to at least the steps that the first made, it has come to the same end: word, steps and
     -- host alike
-    pub ends-alike : (twin : Memory) → NoLess (sizesOf memory) (sizesOf twin) → (host : Host S) → Lawful host → (s : S) (ts us : List Turn) (n w : ℕ) (l : State) (t : S)
+    pub ends-alike : (twin : Memory) → Unused (twin .storage) → NoLess (sizesOf memory) (sizesOf twin) → (host : Host S) → Lawful host → (s : S) (ts us : List Turn) (n w : ℕ) (l : State) (t : S)
         → serve (step P host) ts (begun P memory) s ≡ served (ended n w l) t → n ≤ allowance us
         → (k : State) × (serve (step P host) us (begun P twin) s ≡ served (ended n w k) t)
     -- the same up to a stop other than cells and calls: stop, function, place, steps and host alike
-    pub stops-alike : (twin : Memory) → NoLess (sizesOf memory) (sizesOf twin) → (host : Host S) → Lawful host → (s : S) (ts us : List Turn) (n : ℕ) (e : Stop) (l : State) (t : S)
+    pub stops-alike : (twin : Memory) → Unused (twin .storage) → NoLess (sizesOf memory) (sizesOf twin) → (host : Host S) → Lawful host → (s : S) (ts us : List Turn) (n : ℕ) (e : Stop) (l : State) (t : S)
         → serve (step P host) ts (begun P memory) s ≡ served (stopped n e l) t → Lasting e → n ≤ allowance us
         → (k : State) × (serve (step P host) us (begun P twin) s ≡ served (stopped n e k) t) × (k .function ≡ l .function) × (k .place ≡ l .place)
