@@ -30,9 +30,16 @@ pub enum CodeFault {
 /// The first check that a package fails, and where.
 #[derive(Clone, Copy)]
 pub enum Refusal {
-    Field { fault: FieldFault, offset: usize },
+    Field {
+        fault: FieldFault,
+        offset: usize,
+    },
     Table,
-    Code { fault: CodeFault, function: usize, place: usize },
+    Code {
+        fault: CodeFault,
+        function: usize,
+        place: usize,
+    },
 }
 
 impl FieldFault {
@@ -76,7 +83,11 @@ impl Refusal {
         match self {
             Refusal::Field { fault, offset } => (fault.number(), 0, offset),
             Refusal::Table => (16, 0, 0),
-            Refusal::Code { fault, function, place } => (fault.number(), function, place),
+            Refusal::Code {
+                fault,
+                function,
+                place,
+            } => (fault.number(), function, place),
         }
     }
 }

@@ -38,7 +38,12 @@ fn print_kinds(rt: &LibcRuntime, kinds: &[Kind; 32], count: usize) -> io::Result
     Ok(())
 }
 
-fn print_plan(rt: &LibcRuntime, function: usize, variables: usize, records: &[ShapeRecord]) -> io::Result<()> {
+fn print_plan(
+    rt: &LibcRuntime,
+    function: usize,
+    variables: usize,
+    records: &[ShapeRecord],
+) -> io::Result<()> {
     for (place, record) in records.iter().enumerate() {
         if let ShapeMark::Shaped = record.mark {
             print!(rt, "{function} {place}")?;

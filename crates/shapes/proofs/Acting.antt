@@ -56,7 +56,7 @@ module _ (f p : ℕ) where
     module _ (enough : n ≤ d) where
       passed : (b : Bool) → eqKinds (take n (stackOf d xs)) (stackOf n ys) ≡ b
           → perform f p 0 (fixed (stackOf n ys) left) (record { stack = stackOf d xs; variables = vs }) ≡
-            keeping f p vs (check b (20, f, p) (room f p (left ++ drop n (stackOf d xs))))
+          keeping f p vs (check b (20, f, p) (room f p (left ++ drop n (stackOf d xs))))
       unfolding perform
       passed b e =
           let a = length-stack d xs in
@@ -70,7 +70,7 @@ module _ (f p : ℕ) where
 
       pub fixed-right : true ≡ eqKinds (take n (stackOf d xs)) (stackOf n ys)
           → perform f p 0 (fixed (stackOf n ys) left) (record { stack = stackOf d xs; variables = vs }) ≡
-            keeping f p vs (room f p (left ++ drop n (stackOf d xs)))
+          keeping f p vs (room f p (left ++ drop n (stackOf d xs)))
       fixed-right e = passed true (sym e)
 
   pub room-fine : (st vs : List Kind) → length st ≤ 32 → keeping f p vs (room f p st) ≡ good (record { stack = st; variables = vs })
@@ -163,7 +163,7 @@ module _ (f p : ℕ) where
     swap-some h l = go d h l
       where
         go : (d : ℕ) → 2 ≤ d → d ≤ length xs → perform f p 0 swap (record { stack = stackOf d xs; variables = vs }) ≡
-          good (record { stack = stackOf d (set (set xs (d - 1) (getD xs (d - 1 - 1) Unknown)) (d - 1 - 1) (getD xs (d - 1) Unknown)); variables = vs })
+            good (record { stack = stackOf d (set (set xs (d - 1) (getD xs (d - 1 - 1) Unknown)) (d - 1 - 1) (getD xs (d - 1) Unknown)); variables = vs })
         go zero h l = absurd (omega arith)
         go (suc zero) h l = absurd (omega arith)
         go (suc (suc n)) h l =
@@ -192,7 +192,7 @@ module _ (f p : ℕ) where
     alike-case b h e = go d h e
       where
         go : (d : ℕ) → 2 ≤ d → b ≡ eqKind (getD xs (d - 1) Unknown) (getD xs (d - 2) Unknown)
-          → perform f p 0 alike (record { stack = stackOf d xs; variables = vs }) ≡ keeping f p vs (check b (20, f, p) (good (drop 2 (stackOf d xs))))
+            → perform f p 0 alike (record { stack = stackOf d xs; variables = vs }) ≡ keeping f p vs (check b (20, f, p) (good (drop 2 (stackOf d xs))))
         go zero h e = absurd (omega arith)
         go (suc zero) h e = absurd (omega arith)
         go (suc (suc d)) h e =

@@ -85,6 +85,7 @@ module _ (xs ys old : List Kind) (i : ℕ) (k : Kind) (e : old ≡ meetTo i xs y
     where
       all : eqKinds (set old i k) xs ≡ (not c && eqKind k (getD old i Unknown))
       all = let n = narrow-set in let m = meet-same i xs ys h in let g = here in let a = add-one i in cc
+
       go : (b : Bool) → b ≡ eqKind k (getD old i Unknown) → (b ≡ true → c′ ≡ c) → (b ≡ false → c′ ≡ true) → not c′ ≡ eqKinds (set old i k) xs
       go true q f g = ap not (f refl) ∙ sym (all ∙ rw (← q) (and-true (not c)))
       go false q f g = ap not (g refl) ∙ sym (all ∙ rw (← q) (and-false (not c)))

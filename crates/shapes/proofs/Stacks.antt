@@ -38,8 +38,9 @@ module _ (xs ys : List Kind) (b : ℕ) where
     where
       here : b + n ≡ d
       here = omega arith
+
       go : Dec (i < n) → (i < n → eqKinds (take n (stackOf d xs)) (stackOf n ys) ≡ false)
-        → (eqKind (getD xs d Unknown) (getD ys n Unknown) && eqKinds (take n (stackOf d xs)) (stackOf n ys)) ≡ false
+          → (eqKind (getD xs d Unknown) (getD ys n Unknown) && eqKinds (take n (stackOf d xs)) (stackOf n ys)) ≡ false
       go (yes l) ih = ap (λ z. eqKind (getD xs d Unknown) (getD ys n Unknown) && z) (ih l) ∙ and-false _
       go (no g) ih =
           let j : i ≡ n = omega arith in
@@ -89,8 +90,8 @@ pub stack-reverse : (ks rest : List Kind) → stackOf (length ks) (ks ++ rest) �
 stack-reverse ks rest =
     ext-getD Unknown _ _ (length-stack (length ks) (ks ++ rest) ∙ sym (length-reverse ks))
     (λ k h.
-      let l : k < length ks = omega (arith, length-stack (length ks) (ks ++ rest)) in
-      getD-stack (length ks) (ks ++ rest) k l ∙ getD-append-left ks rest Unknown (length ks - 1 - k) (omega arith) ∙ sym (getD-reverse ks k Unknown l))
+    let l : k < length ks = omega (arith, length-stack (length ks) (ks ++ rest)) in
+    getD-stack (length ks) (ks ++ rest) k l ∙ getD-append-left ks rest Unknown (length ks - 1 - k) (omega arith) ∙ sym (getD-reverse ks k Unknown l))
 
 -- an entry above the stack leaves it as it was
 pub stack-set : (n : ℕ) (xs : List Kind) (k : Kind) → stackOf n (set xs n k) ≡ stackOf n xs
@@ -113,10 +114,12 @@ entries-below (suc n) xs h k l = go (decLt k n) (λ i. entries-below n xs (omega
   where
     here : length (stackOf n xs) ≡ n
     here = length-stack n xs
+
     size : length (entriesOf (stackOf n xs)) ≡ 32
     size = length-entries (stackOf n xs)
+
     go : Dec (k < n) → (k < n → getD (entriesOf (stackOf n xs)) k Unknown ≡ getD xs k Unknown)
-      → getD (set (entriesOf (stackOf n xs)) (length (stackOf n xs)) (getD xs n Unknown)) k Unknown ≡ getD xs k Unknown
+        → getD (set (entriesOf (stackOf n xs)) (length (stackOf n xs)) (getD xs n Unknown)) k Unknown ≡ getD xs k Unknown
     go (yes i) ih = getD-set-other (entriesOf (stackOf n xs)) (length (stackOf n xs)) k (getD xs n Unknown) Unknown (omega (arith, here)) ∙ ih i
     go (no i) ih =
         let e : k ≡ length (stackOf n xs) = omega (arith, here) in
@@ -141,12 +144,16 @@ whole-is r w = go (r .mark) refl (w .vacant)
   where
     t : Tidy r
     t = w .tidy
+
     st : r .stack ≡ entriesOf (stackOf (r .depth) (r .stack))
     st = entries-stack (r .depth) (r .stack) (t .low) (t .long) (t .unused)
+
     ln : r .depth ≡ length (stackOf (r .depth) (r .stack))
     ln = sym (length-stack (r .depth) (r .stack))
+
     none : r .depth ≡ 0 → r .stack ≡ replicate 32 Unknown
     none e = st ∙ ap (λ n. entriesOf (stackOf n (r .stack))) e
+
     go : (m : ShapeMark) → r .mark ≡ m → HasShape m ⊎ ((r .depth ≡ 0) × (r .variables ≡ replicate 32 Unknown)) → r ≡ workingRecord (cellAs m (shapeIn r))
     go Blank e (inl h) = absurd h
     go Blank e (inr h) = λ i. record { mark = e i; depth = h .0 i; stack = none (h .0) i; variables = h .1 i }
@@ -194,11 +201,12 @@ tidy-lowered r b xs t h l c a = record { low = omega (arith, t .low); long = l; 
 pub tidy-pushed : (r : ShapeRecord) (x : Kind) → Tidy r → r .depth < 32
     → Tidy (record { mark = r .mark; depth = r .depth + 1; stack = set (r .stack) (r .depth) x; variables = r .variables })
 tidy-pushed r x t h =
-    record
-      { low = omega arith
-      ; long = length-set (r .stack) (r .depth) x ∙ t .long
-      ; wide = t .wide
-      ; unused = λ k i. getD-set-other (r .stack) (r .depth) k x Unknown (omega arith) ∙ t .unused k (omega arith) }
+    record {
+      low = omega arith;
+      long = length-set (r .stack) (r .depth) x ∙ t .long;
+      wide = t .wide;
+      unused = λ k i. getD-set-other (r .stack) (r .depth) k x Unknown (omega arith) ∙ t .unused k (omega arith);
+    }
 
 pub stack-pushed : (r : ShapeRecord) (x : Kind) → Tidy r → r .depth < 32
     → stackOf (r .depth + 1) (set (r .stack) (r .depth) x) ≡ x ∷ stackOf (r .depth) (r .stack)
@@ -210,11 +218,12 @@ stack-pushed r x t h =
 pub tidy-entries : (r : ShapeRecord) (i j : ℕ) (x y : Kind) → Tidy r → i < r .depth → j < r .depth
     → Tidy (record { mark = r .mark; depth = r .depth; stack = set (set (r .stack) i x) j y; variables = r .variables })
 tidy-entries r i j x y t h l =
-    record
-      { low = t .low
-      ; long = length-set (set (r .stack) i x) j y ∙ length-set (r .stack) i x ∙ t .long
-      ; wide = t .wide
-      ; unused = λ k m. getD-set-other (set (r .stack) i x) j k y Unknown (omega arith) ∙ getD-set-other (r .stack) i k x Unknown (omega arith) ∙ t .unused k m }
+    record {
+      low = t .low;
+      long = length-set (set (r .stack) i x) j y ∙ length-set (r .stack) i x ∙ t .long;
+      wide = t .wide;
+      unused = λ k m. getD-set-other (set (r .stack) i x) j k y Unknown (omega arith) ∙ getD-set-other (r .stack) i k x Unknown (omega arith) ∙ t .unused k m;
+    }
 
 -- without the uppermost n entries
 pub shape-lowered : (r : ShapeRecord) (n : ℕ) (xs : List Kind) → n ≤ r .depth

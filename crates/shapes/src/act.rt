@@ -8,7 +8,6 @@ ghost use Rattle.plan.specs.Effects.{perform as performOf, fixed, load as loadO
 ghost use Rattle.plan.specs.Shapes.{eqKinds};
 ghost use Rattle.shapes.specs.Acts.{noKinds, actIn, kindsOf, oneOrNone, lowered, pushed};
 ghost use Rattle.shapes.specs.Records.{stackOf, shapeIn, Tidy};
-
 use crate::kinds::clear;
 use crate::kinds::no_kinds;
 use crate::kinds::same_kind;
@@ -42,7 +41,10 @@ impl Kinds {
     pub fn none() -> Kinds
         ensures { λ r. ⌜ r ≡ noKinds ⌝ }
     {
-        Kinds { count: 0, entries: no_kinds() }
+        Kinds {
+            count: 0,
+            entries: no_kinds(),
+        }
     }
 
     pub fn one(kind: Kind) -> Kinds
@@ -98,23 +100,41 @@ impl ShapeRecord {
         ensures tidy { λ _. ⌜ Tidy (now (self .exit)) ⌝ }
     {
         if self.depth >= 32 {
-            return Err(Refusal::Code { fault: CodeFault::TooMany, function, place });
+            return Err(Refusal::Code {
+                fault: CodeFault::TooMany,
+                function,
+                place,
+            });
         }
         self.stack[self.depth] = kind;
         self.depth += 1;
         Ok(())
     }
 
-    fn replace(&mut self, taken: &Kinds, left: Option<Kind>, function: usize, place: usize) -> Result<(), Refusal>
+    fn replace(
+        &mut self,
+        taken: &Kinds,
+        left: Option<Kind>,
+        function: usize,
+        place: usize,
+    ) -> Result<(), Refusal>
         requires tidy { ⌜ Tidy (now self) ⌝ }
         ensures met { λ r. ⌜ performOf function place 0 (fixed (kindsOf (now (taken .entry))) (oneOrNone left)) (shapeIn (now (self .entry))) ≡ told (λ _. shapeIn (now (self .exit))) r ⌝ }
         ensures tidy { λ _. ⌜ Tidy (now (self .exit)) ⌝ }
     {
         if self.depth < taken.count {
-            return Err(Refusal::Code { fault: CodeFault::TooFew, function, place });
+            return Err(Refusal::Code {
+                fault: CodeFault::TooFew,
+                function,
+                place,
+            });
         }
         if !self.has_on_top(taken) {
-            return Err(Refusal::Code { fault: CodeFault::WrongKind, function, place });
+            return Err(Refusal::Code {
+                fault: CodeFault::WrongKind,
+                function,
+                place,
+            });
         }
         self.lower(taken.count);
         match left {
@@ -123,33 +143,61 @@ impl ShapeRecord {
         }
     }
 
-    fn load(&mut self, variable: usize, count: usize, function: usize, place: usize) -> Result<(), Refusal>
+    fn load(
+        &mut self,
+        variable: usize,
+        count: usize,
+        function: usize,
+        place: usize,
+    ) -> Result<(), Refusal>
         requires tidy { ⌜ Tidy (now self) ⌝ }
         requires few { ⌜ count ≤ 32 ⌝ }
         ensures met { λ r. ⌜ performOf function place count (loadOf variable) (shapeIn (now (self .entry))) ≡ told (λ _. shapeIn (now (self .exit))) r ⌝ }
         ensures tidy { λ _. ⌜ Tidy (now (self .exit)) ⌝ }
     {
         if variable >= count {
-            return Err(Refusal::Code { fault: CodeFault::Variable, function, place });
+            return Err(Refusal::Code {
+                fault: CodeFault::Variable,
+                function,
+                place,
+            });
         }
         let kind = self.variables[variable];
         if same_kind(kind, Kind::Unknown) {
-            return Err(Refusal::Code { fault: CodeFault::Variable, function, place });
+            return Err(Refusal::Code {
+                fault: CodeFault::Variable,
+                function,
+                place,
+            });
         }
         self.push(kind, function, place)
     }
 
-    fn store(&mut self, variable: usize, count: usize, function: usize, place: usize) -> Result<(), Refusal>
+    fn store(
+        &mut self,
+        variable: usize,
+        count: usize,
+        function: usize,
+        place: usize,
+    ) -> Result<(), Refusal>
         requires tidy { ⌜ Tidy (now self) ⌝ }
         requires few { ⌜ count ≤ 32 ⌝ }
         ensures met { λ r. ⌜ performOf function place count (storeOf variable) (shapeIn (now (self .entry))) ≡ told (λ _. shapeIn (now (self .exit))) r ⌝ }
         ensures tidy { λ _. ⌜ Tidy (now (self .exit)) ⌝ }
     {
         if variable >= count {
-            return Err(Refusal::Code { fault: CodeFault::Variable, function, place });
+            return Err(Refusal::Code {
+                fault: CodeFault::Variable,
+                function,
+                place,
+            });
         }
         if self.depth == 0 {
-            return Err(Refusal::Code { fault: CodeFault::TooFew, function, place });
+            return Err(Refusal::Code {
+                fault: CodeFault::TooFew,
+                function,
+                place,
+            });
         }
         let kind = self.stack[self.depth - 1];
         self.lower(1);
@@ -163,7 +211,11 @@ impl ShapeRecord {
         ensures tidy { λ _. ⌜ Tidy (now (self .exit)) ⌝ }
     {
         if self.depth == 0 {
-            return Err(Refusal::Code { fault: CodeFault::TooFew, function, place });
+            return Err(Refusal::Code {
+                fault: CodeFault::TooFew,
+                function,
+                place,
+            });
         }
         self.lower(1);
         Ok(())
@@ -175,7 +227,11 @@ impl ShapeRecord {
         ensures tidy { λ _. ⌜ Tidy (now (self .exit)) ⌝ }
     {
         if self.depth == 0 {
-            return Err(Refusal::Code { fault: CodeFault::TooFew, function, place });
+            return Err(Refusal::Code {
+                fault: CodeFault::TooFew,
+                function,
+                place,
+            });
         }
         self.push(self.stack[self.depth - 1], function, place)
     }
@@ -186,7 +242,11 @@ impl ShapeRecord {
         ensures tidy { λ _. ⌜ Tidy (now (self .exit)) ⌝ }
     {
         if self.depth < 2 {
-            return Err(Refusal::Code { fault: CodeFault::TooFew, function, place });
+            return Err(Refusal::Code {
+                fault: CodeFault::TooFew,
+                function,
+                place,
+            });
         }
         let top = self.depth - 1;
         let kind = self.stack[top];
@@ -202,10 +262,18 @@ impl ShapeRecord {
         ensures tidy { λ _. ⌜ Tidy (now (self .exit)) ⌝ }
     {
         if self.depth < 2 {
-            return Err(Refusal::Code { fault: CodeFault::TooFew, function, place });
+            return Err(Refusal::Code {
+                fault: CodeFault::TooFew,
+                function,
+                place,
+            });
         }
         if !same_kind(self.stack[self.depth - 1], self.stack[self.depth - 2]) {
-            return Err(Refusal::Code { fault: CodeFault::WrongKind, function, place });
+            return Err(Refusal::Code {
+                fault: CodeFault::WrongKind,
+                function,
+                place,
+            });
         }
         self.lower(2);
         Ok(())
@@ -218,17 +286,31 @@ impl ShapeRecord {
         ensures tidy { λ _. ⌜ Tidy (now (self .exit)) ⌝ }
     {
         if self.depth != 1 {
-            return Err(Refusal::Code { fault: CodeFault::Return, function, place });
+            return Err(Refusal::Code {
+                fault: CodeFault::Return,
+                function,
+                place,
+            });
         }
         if !same_kind(self.stack[0], kind) {
-            return Err(Refusal::Code { fault: CodeFault::WrongKind, function, place });
+            return Err(Refusal::Code {
+                fault: CodeFault::WrongKind,
+                function,
+                place,
+            });
         }
         self.lower(1);
         Ok(())
     }
 
     /// Does an act at a place of a function with so many variables, or answers the first check that it fails.
-    pub fn perform(&mut self, act: &StackAct, count: usize, function: usize, place: usize) -> Result<(), Refusal>
+    pub fn perform(
+        &mut self,
+        act: &StackAct,
+        count: usize,
+        function: usize,
+        place: usize,
+    ) -> Result<(), Refusal>
         requires tidy { ⌜ Tidy (now self) ⌝ }
         requires few { ⌜ count ≤ 32 ⌝ }
         ensures met { λ r. ⌜ performOf function place count (actIn (now (act .entry))) (shapeIn (now (self .entry))) ≡ told (λ _. shapeIn (now (self .exit))) r ⌝ }

@@ -5,7 +5,6 @@ ghost use Prim.Native.Nat.{ℕ, _<_, _≤_};
 ghost use lib.ListN.{length, getD, replicate};
 ghost use Rattle.bytecode.specs.declared.kind.Kind.the-variants.{Unknown as UnknownKind};
 ghost use Rattle.plan.specs.Shapes.{eqKind, eqKinds, meet, meetKind};
-
 use bytecode::kind::Kind;
 
 pub(crate) fn same_kind(a: Kind, b: Kind) -> bool

@@ -5,7 +5,6 @@ ghost use Rattle.bytecode.specs.Outcome.{told};
 ghost use Rattle.plan.specs.Shapes.{eqKinds};
 ghost use Rattle.plan.specs.Sweep.{join as joinOf};
 ghost use Rattle.shapes.specs.Records.{stackOf, shapeIn, cellOf, blankRecord, Tidy, Whole};
-
 use crate::kinds::narrow;
 use crate::kinds::no_kinds;
 use crate::kinds::same_kind;
@@ -36,7 +35,12 @@ pub struct ShapeRecord {
 pub fn blank_record() -> ShapeRecord
     ensures { λ r. ⌜ r ≡ blankRecord ⌝ }
 {
-    ShapeRecord { mark: ShapeMark::Blank, depth: 0, stack: no_kinds(), variables: no_kinds() }
+    ShapeRecord {
+        mark: ShapeMark::Blank,
+        depth: 0,
+        stack: no_kinds(),
+        variables: no_kinds(),
+    }
 }
 
 fn same_stack(a: &ShapeRecord, b: &ShapeRecord) -> bool
@@ -56,21 +60,38 @@ fn same_stack(a: &ShapeRecord, b: &ShapeRecord) -> bool
 }
 
 /// The record of a place is met by a shape that comes from another place of the function's code.
-pub fn join(record: &mut ShapeRecord, shape: &ShapeRecord, function: usize, from: usize, place: usize) -> Result<(), Refusal>
+pub fn join(
+    record: &mut ShapeRecord,
+    shape: &ShapeRecord,
+    function: usize,
+    from: usize,
+    place: usize,
+) -> Result<(), Refusal>
     requires record { ⌜ Whole (now «record») ⌝ }
     requires shape { ⌜ Tidy (now shape) ⌝ }
     ensures met { λ r. ⌜ joinOf function from place (cellOf (now («record» .entry))) (shapeIn (now (shape .entry))) ≡ told (λ _. cellOf (now («record» .exit))) r ⌝ }
     ensures whole { λ _. ⌜ Whole (now («record» .exit)) ⌝ }
 {
     match record.mark {
-        ShapeMark::Blank => Err(Refusal::Code { fault: CodeFault::NoStart, function, place: from }),
+        ShapeMark::Blank => Err(Refusal::Code {
+            fault: CodeFault::NoStart,
+            function,
+            place: from,
+        }),
         ShapeMark::Start => {
-            *record = ShapeRecord { mark: ShapeMark::Due, ..*shape };
+            *record = ShapeRecord {
+                mark: ShapeMark::Due,
+                ..*shape
+            };
             Ok(())
         }
         _ => {
             if !same_stack(record, shape) {
-                return Err(Refusal::Code { fault: CodeFault::StacksDiffer, function, place });
+                return Err(Refusal::Code {
+                    fault: CodeFault::StacksDiffer,
+                    function,
+                    place,
+                });
             }
             if narrow(&mut record.variables, &shape.variables) {
                 record.mark = ShapeMark::Due;

@@ -1,12 +1,12 @@
 // Checks a package given as hex text on standard input, and prints its verdict: `accepted` with the numbers of bytes, functions and
 // takes, or `refused` with the number of the check that failed and its place.
+use shapes::table::blank_record;
 use source::hex::HexText;
 use source::hex::HexTextSource;
 use source::loader::LIMIT;
 use source::loader::load;
 use std::io;
 use std::io::Read;
-use shapes::table::blank_record;
 use verifier::program::check;
 
 // A record for each byte of code that a package can have.

@@ -54,9 +54,9 @@ module _ (P : Program) where
       let z : f + 0 ≡ f = omega arith in
       let y : f + suc i ≡ suc f + i = omega arith in
       decode-head n f (bad e) (subst (λ g. startsOf g (codeAt P g) ≡ good (startsAt P g)) z (d 0 (omega arith)))
-        (fault-from n (suc f) i e (omega arith)
-          (λ g l. let x : f + suc g ≡ suc f + g = omega arith in subst (λ j. startsOf j (codeAt P j) ≡ good (startsAt P j)) x (d (suc g) (omega arith)))
-          (subst (λ j. startsOf j (codeAt P j) ≡ bad e) y b))
+      (fault-from n (suc f) i e (omega arith)
+      (λ g l. let x : f + suc g ≡ suc f + g = omega arith in subst (λ j. startsOf j (codeAt P j) ≡ good (startsAt P j)) x (d (suc g) (omega arith)))
+      (subst (λ j. startsOf j (codeAt P j) ≡ bad e) y b))
 
   done-from : (n f : ℕ) → ((g : ℕ) → g < n → startsOf (f + g) (codeAt P (f + g)) ≡ good (startsAt P (f + g))) → decodeFrom P n f ≡ good (startsFrom P n f)
   unfolding decodeFrom
@@ -64,15 +64,15 @@ module _ (P : Program) where
   done-from (suc n) f d =
       let z : f + 0 ≡ f = omega arith in
       decode-head n f (good (startsFrom P n (suc f))) (subst (λ g. startsOf g (codeAt P g) ≡ good (startsAt P g)) z (d 0 (omega arith)))
-        (done-from n (suc f)
-          (λ g l. let x : f + suc g ≡ suc f + g = omega arith in subst (λ j. startsOf j (codeAt P j) ≡ good (startsAt P j)) x (d (suc g) (omega arith))))
+      (done-from n (suc f)
+      (λ g l. let x : f + suc g ≡ suc f + g = omega arith in subst (λ j. startsOf j (codeAt P j) ≡ good (startsAt P j)) x (d (suc g) (omega arith))))
 
   pub decode-fault : (n i : ℕ) (e : Fault) → i < n → ((g : ℕ) → g < i → startsOf g (codeAt P g) ≡ good (startsAt P g)) → startsOf i (codeAt P i) ≡ bad e
       → decodeFrom P n 0 ≡ bad e
   decode-fault n i e h d b =
       let y : i ≡ 0 + i = omega arith in
       fault-from n 0 i e h (λ g l. let x : g ≡ 0 + g = omega arith in subst (λ j. startsOf j (codeAt P j) ≡ good (startsAt P j)) x (d g l))
-        (subst (λ j. startsOf j (codeAt P j) ≡ bad e) y b)
+      (subst (λ j. startsOf j (codeAt P j) ≡ bad e) y b)
 
   pub decode-done : (n : ℕ) → ((g : ℕ) → g < n → startsOf g (codeAt P g) ≡ good (startsAt P g)) → decodeFrom P n 0 ≡ good (startsFrom P n 0)
   decode-done n d = done-from n 0 (λ g l. let x : g ≡ 0 + g = omega arith in subst (λ j. startsOf j (codeAt P j) ≡ good (startsAt P j)) x (d g l))

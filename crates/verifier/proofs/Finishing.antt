@@ -30,7 +30,7 @@ module _ (rs us : List ShapeRecord) (i : ℕ) (l : i < length rs) (k : i < lengt
 
   pub finish-start : getD us i noRecord .mark ≡ Start
       → set us i (record { mark = Blank; depth = getD us i noRecord .depth; stack = getD us i noRecord .stack; variables = getD us i noRecord .variables }) ≡
-        map finished (take (i + 1) rs) ++ drop (i + 1) rs
+      map finished (take (i + 1) rs) ++ drop (i + 1) rs
   finish-start h =
       ap (λ m. set us i (record { mark = m; depth = getD us i noRecord .depth; stack = getD us i noRecord .stack; variables = getD us i noRecord .variables })) (sym (ap finishedMark h)) ∙ next
 
@@ -64,8 +64,8 @@ finished-tables [] n = refl
 finished-tables (T ∷ Ts) n =
     map-append finished (map workingRecord T) (workingRecords Ts) ∙
     (let a : map finished (map workingRecord T) ≡ records T = finished-table T (n 0 (omega arith)) in
-     let b : map finished (workingRecords Ts) ≡ allRecords Ts = finished-tables Ts (λ f l. n (suc f) (omega arith)) in
-     λ i. a i ++ b i)
+    let b : map finished (workingRecords Ts) ≡ allRecords Ts = finished-tables Ts (λ f l. n (suc f) (omega arith)) in
+    λ i. a i ++ b i)
 
 finished-blank : (n : ℕ) → map finished (replicate n blankRecord) ≡ replicate n blankRecord
 finished-blank zero = refl

@@ -36,10 +36,11 @@ module _ (p : Package) (h : Fitting p) where
 
   pub well-formed : WellFormed (programOf p)
   well-formed =
-      record
-        { functions = λ f g e.
+      record {
+        functions = λ f g e.
             formed-function g (subst FunctionFormed (nth-getD (programOf p .functions) f noFunction g e)
-              (all-getD FunctionFormed (programOf p .functions) f noFunction (nth-inside (programOf p .functions) f g e) (h .formed)))
-        ; natives = λ n g e.
+            (all-getD FunctionFormed (programOf p .functions) f noFunction (nth-inside (programOf p .functions) f g e) (h .formed)));
+        natives = λ n g e.
             known-signature g (subst NativeFormed (nth-getD (programOf p .natives) n noNative g e)
-              (all-getD NativeFormed (programOf p .natives) n noNative (nth-inside (programOf p .natives) n g e) (h .nativesFormed))) }
+            (all-getD NativeFormed (programOf p .natives) n noNative (nth-inside (programOf p .natives) n g e) (h .nativesFormed)));
+      }

@@ -86,14 +86,17 @@ judged-verdict bytes room = go (packageAt bytes) refl
   where
     Q : Verdict → Type 0
     Q v = (packageAt bytes ≡ good (v .meaning)) × (judge (v .meaning) ≡ good (v .tables, v .takes))
+
     swept : (P : Program) → packageAt bytes ≡ good P → (r : Judgement) → judge P ≡ r → On (Unit {0}) Q (bind r (λ r. good (verdict P r)))
     swept P h (bad e) d = tt
     swept P h (good r) d = (h, d)
+
     fits : (P : Program) → packageAt bytes ≡ good P → (b : Bool) → On (Unit {0}) Q (check b (16, 0, 0) (bind (judge P) (λ r. good (verdict P r))))
     fits P h true = swept P h (judge P) refl
     fits P h false = tt
+
     go : (o : Out Program) → packageAt bytes ≡ o
-      → On (Unit {0}) Q (bind o (λ P. check (leb (codeSize (P .functions)) room) (16, 0, 0) (bind (judge P) (λ r. good (verdict P r)))))
+        → On (Unit {0}) Q (bind o (λ P. check (leb (codeSize (P .functions)) room) (16, 0, 0) (bind (judge P) (λ r. good (verdict P r)))))
     go (bad e) h = tt
     go (good P) h = fits P h (leb (codeSize (P .functions)) room)
 
@@ -106,7 +109,7 @@ pub table-finished : (bytes : List ℕ) (room : ℕ) (a : Program × ℕ) → ((
 table-finished bytes room a formed e = go (checkOf bytes room) (judged-verdict bytes room) e
   where
     go : (o : Out Verdict) → On (Unit {0}) (λ v. (packageAt bytes ≡ good (v .meaning)) × (judge (v .meaning) ≡ good (v .tables, v .takes))) o → answered o ≡ good a
-      → map finished (workingAll room (tablesIn o)) ≡ tableAfter room o
+        → map finished (workingAll room (tablesIn o)) ≡ tableAfter room o
     go (bad x) h d = absurd (good-bad a x (sym d))
     go (good v) h d =
         let k = accepted (v .meaning) (formed (v .meaning) (h .0)) (v .tables) (v .takes) (h .1) in
@@ -144,8 +147,8 @@ module _ (P : Program) where
       ap (λ rs. getD rs (length (records T) + (bytesFrom P i (suc f) + p)) noRecord) (append-assoc (records T) (allRecords Ts) rest) ∙
       getD-append-add (records T) (allRecords Ts ++ rest) (bytesFrom P i (suc f) + p) noRecord ∙
       shown-at Ts (suc f) i p rest (omega arith)
-        (λ g j. let x : f + suc g ≡ suc f + g = omega arith in l (suc g) (omega arith) ∙ ap (λ e. length (codeAt P e)) x)
-        (omega (arith, ap (λ e. length (codeAt P e)) y))
+      (λ g j. let x : f + suc g ≡ suc f + g = omega arith in l (suc g) (omega arith) ∙ ap (λ e. length (codeAt P e)) x)
+      (omega (arith, ap (λ e. length (codeAt P e)) y))
 
   length-records : (Ts : List Table) (f : ℕ) → ((g : ℕ) → g < length Ts → length (getD Ts g []) ≡ length (codeAt P (f + g))) → length (allRecords Ts) ≡ bytesFrom P (length Ts) f
   length-records [] f l = refl
@@ -189,8 +192,9 @@ decided bytes room r table formed e m P h l = go (judge P) refl (judged P (forme
   where
     outcome : checkOf bytes room ≡ bind (judge P) (λ r. good (verdict P r))
     outcome = check-judged bytes room P h l
+
     go : (o : Judgement) → judge P ≡ o → Judged P o → (r : Result Answer Refusal) → answered (bind o (λ r. good (verdict P r))) ≡ told answerOf r
-      → table ≡ tableAfter room (bind o (λ r. good (verdict P r))) → Decides P r table
+        → table ≡ tableAfter room (bind o (λ r. good (verdict P r))) → Decides P r table
     go (bad x) d j (Ok a) e m = absurd (good-bad (answerOf a) x (sym e))
     go (bad x) d j (Err y) e m =
         let z : x ≡ shown y = cc in
@@ -199,12 +203,13 @@ decided bytes room r table formed e m P h l = go (judge P) refl (judged P (forme
     go (good s) d j (Ok a) e m =
         let k : Accepted P (s .0) (s .1) = j .says in
         let t : s .1 ≡ a .takes = same-takes _ _ _ _ e in
-        record
-          { planned = j .planned tt
-          ; fullest = λ f i. (planOf (getD (s .0) f []), k .settled f i .fullest, subst (Shows P f (planOf (getD (s .0) f []))) (sym m) (shows P (s .0) (s .1) k room f i))
-          ; past = λ q i n.
-              ap (λ rs. getD rs q noRecord) m ∙ past-blank P (s .0) (s .1) k room q i (omega (arith, n, ap length m))
-          ; few = omega (arith, k .few, t) }
+        record {
+          planned = j .planned tt;
+          fullest = λ f i. (planOf (getD (s .0) f []), k .settled f i .fullest, subst (Shows P f (planOf (getD (s .0) f []))) (sym m) (shows P (s .0) (s .1) k room f i));
+          past = λ q i n.
+              ap (λ rs. getD rs q noRecord) m ∙ past-blank P (s .0) (s .1) k room q i (omega (arith, n, ap length m));
+          few = omega (arith, k .few, t);
+        }
 
 -- ## The answers of check, from those of its parts
 

@@ -84,20 +84,20 @@ module _ {A : Type 0} (part : ℕ → List A) where
     part-at (suc n) f (suc i) rest h l =
         let here : length (part f) ≡ length (codeAt P f) = subst (λ g. length (part g) ≡ length (codeAt P g)) (plus-none f) (l 0 (omega arith)) in
         ap (take (length (codeAt P (f + suc i))))
-          (sym (drop-drop (bytesFrom P i (suc f)) (length (codeAt P f)) ((part f ++ joinedFrom part n (suc f)) ++ rest)) ∙
-           ap (drop (bytesFrom P i (suc f)))
-             (ap (drop (length (codeAt P f))) (append-assoc (part f) (joinedFrom part n (suc f)) rest) ∙
-              drop-at (part f) (joinedFrom part n (suc f) ++ rest) (length (codeAt P f)) here)) ∙
+        (sym (drop-drop (bytesFrom P i (suc f)) (length (codeAt P f)) ((part f ++ joinedFrom part n (suc f)) ++ rest)) ∙
+        ap (drop (bytesFrom P i (suc f)))
+        (ap (drop (length (codeAt P f))) (append-assoc (part f) (joinedFrom part n (suc f)) rest) ∙
+        drop-at (part f) (joinedFrom part n (suc f) ++ rest) (length (codeAt P f)) here)) ∙
         subst (λ g. take (length (codeAt P g)) (drop (bytesFrom P i (suc f)) (joinedFrom part n (suc f) ++ rest)) ≡ part g) (sym (plus-next f i))
-          (part-at n (suc f) i rest (omega arith)
-            (λ g k. subst (λ j. length (part j) ≡ length (codeAt P j)) (plus-next f g) (l (suc g) (omega arith))))
+        (part-at n (suc f) i rest (omega arith)
+        (λ g k. subst (λ j. length (part j) ≡ length (codeAt P j)) (plus-next f g) (l (suc g) (omega arith))))
 
     pub part-of : (n i : ℕ) (rest : List A) → i < n → ((g : ℕ) → g < n → length (part g) ≡ length (codeAt P g))
         → take (length (codeAt P i)) (drop (bytesFrom P i 0) (joinedFrom part n 0 ++ rest)) ≡ part i
     part-of n i rest h l =
         let z : 0 + i ≡ i = omega arith in
         subst (λ g. take (length (codeAt P g)) (drop (bytesFrom P i 0) (joinedFrom part n 0 ++ rest)) ≡ part g) z
-          (part-at n 0 i rest h (λ g k. let y : g ≡ 0 + g = omega arith in subst (λ j. length (part j) ≡ length (codeAt P j)) y (l g k)))
+        (part-at n 0 i rest h (λ g k. let y : g ≡ 0 + g = omega arith in subst (λ j. length (part j) ≡ length (codeAt P j)) y (l g k)))
 
     length-joined : (n f : ℕ) → ((g : ℕ) → g < n → length (part (f + g)) ≡ length (codeAt P (f + g))) → length (joinedFrom part n f) ≡ bytesFrom P n f
     length-joined zero f l = refl

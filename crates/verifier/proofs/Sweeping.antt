@@ -84,9 +84,9 @@ module _ (P : Program) where
       let z : f + 0 ≡ f = omega arith in
       let y : f + suc i ≡ suc f + i = omega arith in
       sweep-head n f (bad e) (subst (λ g. sweepFunction P g ≡ good (sweptTable P g, sweptTakes P g)) z (d 0 (omega arith)))
-        (fault-from n (suc f) i e (omega arith)
-          (λ g l. let x : f + suc g ≡ suc f + g = omega arith in subst (λ j. sweepFunction P j ≡ good (sweptTable P j, sweptTakes P j)) x (d (suc g) (omega arith)))
-          (subst (λ j. sweepFunction P j ≡ bad e) y b))
+      (fault-from n (suc f) i e (omega arith)
+      (λ g l. let x : f + suc g ≡ suc f + g = omega arith in subst (λ j. sweepFunction P j ≡ good (sweptTable P j, sweptTakes P j)) x (d (suc g) (omega arith)))
+      (subst (λ j. sweepFunction P j ≡ bad e) y b))
 
   done-from : (n f : ℕ) → ((g : ℕ) → g < n → sweepFunction P (f + g) ≡ good (sweptTable P (f + g), sweptTakes P (f + g)))
       → sweepFrom P n f ≡ good (tablesFrom P n f, takesFrom P n f)
@@ -95,15 +95,15 @@ module _ (P : Program) where
   done-from (suc n) f d =
       let z : f + 0 ≡ f = omega arith in
       sweep-head n f (good (tablesFrom P n (suc f), takesFrom P n (suc f))) (subst (λ g. sweepFunction P g ≡ good (sweptTable P g, sweptTakes P g)) z (d 0 (omega arith)))
-        (done-from n (suc f)
-          (λ g l. let x : f + suc g ≡ suc f + g = omega arith in subst (λ j. sweepFunction P j ≡ good (sweptTable P j, sweptTakes P j)) x (d (suc g) (omega arith))))
+      (done-from n (suc f)
+      (λ g l. let x : f + suc g ≡ suc f + g = omega arith in subst (λ j. sweepFunction P j ≡ good (sweptTable P j, sweptTakes P j)) x (d (suc g) (omega arith))))
 
   pub sweep-fault : (n i : ℕ) (e : Fault) → i < n → ((g : ℕ) → g < i → sweepFunction P g ≡ good (sweptTable P g, sweptTakes P g)) → sweepFunction P i ≡ bad e
       → sweepFrom P n 0 ≡ bad e
   sweep-fault n i e h d b =
       let y : i ≡ 0 + i = omega arith in
       fault-from n 0 i e h (λ g l. let x : g ≡ 0 + g = omega arith in subst (λ j. sweepFunction P j ≡ good (sweptTable P j, sweptTakes P j)) x (d g l))
-        (subst (λ j. sweepFunction P j ≡ bad e) y b)
+      (subst (λ j. sweepFunction P j ≡ bad e) y b)
 
   pub sweep-done : (n t : ℕ) → ((g : ℕ) → g < n → sweepFunction P g ≡ good (sweptTable P g, sweptTakes P g)) → t ≡ takesFrom P n 0
       → sweepFrom P n 0 ≡ good (tablesFrom P n 0, t)

@@ -41,11 +41,11 @@ settledRecord r = record { mark = Shaped; depth = r .depth; stack = r .stack; va
 module _ (P : Program) (f : ℕ) (rs : List ShapeRecord) (p : ℕ) where
   visit-applied : (o : Option Instruction) (r : Out (Shape × List (Option ℕ))) → decodeAt (codeAt P f) p ≡ o → applied P f p (shapeIn (getD rs p noRecord)) o ≡ r
       → visit P f (map cellOf rs) p (shapeIn (getD rs p noRecord)) ≡
-        bind r (λ r. spread f p (r .0) (r .1) (map cellOf (set rs p (settledRecord (getD rs p noRecord)))))
+      bind r (λ r. spread f p (r .0) (r .1) (map cellOf (set rs p (settledRecord (getD rs p noRecord)))))
   unfolding visit apply
   visit-applied o r d h =
       ap (λ a. bind a (λ r. spread f p (r .0) (r .1) (set (map cellOf rs) p (settled (shapeIn (getD rs p noRecord))))))
-        (ap (applied P f p (shapeIn (getD rs p noRecord))) d ∙ h) ∙
+      (ap (applied P f p (shapeIn (getD rs p noRecord))) d ∙ h) ∙
       ap (λ T. bind r (λ r. spread f p (r .0) (r .1) T)) (sym (map-set cellOf rs p (settledRecord (getD rs p noRecord))))
 
   pub visit-undecoded : decodeAt (codeAt P f) p ≡ None → visit P f (map cellOf rs) p (shapeIn (getD rs p noRecord)) ≡ bad (17, f, p)

@@ -11,7 +11,6 @@ ghost use Rattle.shapes.specs.Acts.{kindsOf, oneOrNone};
 ghost use Rattle.std.specs.declared.option.Option.the-variants.{Some};
 ghost use Rattle.shapes.specs.Records.{shapeIn, Tidy};
 ghost use Rattle.verifier.specs.Acting.{actsAs, padded};
-
 use bytecode::instruction::Instruction;
 use bytecode::kind::Kind;
 use bytecode::refusal::CodeFault;
@@ -59,7 +58,10 @@ fn call_function(package: &Package, function: usize) -> Option<StackAct>
     if function >= package.function_count {
         return None;
     }
-    Some(StackAct::Fixed(function_arguments(package, function), Some(package.result_kind(function))))
+    Some(StackAct::Fixed(
+        function_arguments(package, function),
+        Some(package.result_kind(function)),
+    ))
 }
 
 // A call of a native; none if there is no such native.
@@ -70,7 +72,10 @@ fn call_native(package: &Package, native: usize) -> Option<StackAct>
     if native >= package.native_count {
         return None;
     }
-    Some(StackAct::Fixed(native_arguments(package, native), Some(package.native_result_kind(native))))
+    Some(StackAct::Fixed(
+        native_arguments(package, native),
+        Some(package.native_result_kind(native)),
+    ))
 }
 
 // An act that takes these kinds and leaves one or none.
@@ -84,7 +89,11 @@ fn fixed(taken: Kinds, left: Option<Kind>) -> Option<StackAct>
 fn constant(index: usize, count: usize, kind: Kind) -> Option<StackAct>
     ensures { λ r. ⌜ within index count (fixedOf [] (kind ∷ [])) ≡ actsAs r ⌝ }
 {
-    if index < count { fixed(Kinds::none(), Some(kind)) } else { None }
+    if index < count {
+        fixed(Kinds::none(), Some(kind))
+    } else {
+        None
+    }
 }
 
 // What an instruction of a function does; none if its index lies outside its pool.
@@ -113,8 +122,14 @@ fn act_of(package: &Package, function: usize, instruction: Instruction) -> Optio
         Instruction::Invokenative(index) => call_native(package, index as usize),
         Instruction::Return => Some(StackAct::Give(package.result_kind(function))),
         Instruction::Newarray(_) => fixed(Kinds::one(word), Some(reference)),
-        Instruction::Arraylength | Instruction::Imload | Instruction::Cmload => fixed(Kinds::one(reference), Some(word)),
-        Instruction::Aaddf(_) | Instruction::Amload => fixed(Kinds::one(reference), Some(reference)),
+        Instruction::Arraylength | Instruction::Imload | Instruction::Cmload => fixed(
+            Kinds::one(reference),
+            Some(word),
+        ),
+        Instruction::Aaddf(_) | Instruction::Amload => fixed(
+            Kinds::one(reference),
+            Some(reference),
+        ),
         Instruction::Aadds => fixed(Kinds::two(reference, word), Some(reference)),
         Instruction::Imstore | Instruction::Cmstore => fixed(Kinds::two(reference, word), None),
         Instruction::Amstore => fixed(Kinds::two(reference, reference), None),
@@ -122,7 +137,13 @@ fn act_of(package: &Package, function: usize, instruction: Instruction) -> Optio
 }
 
 // Applies an instruction at a place of a function, or answers the first check that it fails.
-pub(crate) fn apply(package: &Package, function: usize, place: usize, instruction: Instruction, shape: &mut ShapeRecord) -> Result<(), Refusal>
+pub(crate) fn apply(
+    package: &Package,
+    function: usize,
+    place: usize,
+    instruction: Instruction,
+    shape: &mut ShapeRecord,
+) -> Result<(), Refusal>
     requires fitting { ⌜ Fitting (now «package») ⌝ }
     requires inside { ⌜ function < now «package» .«function_count» ⌝ }
     requires tidy { ⌜ Tidy (now shape) ⌝ }
@@ -131,7 +152,11 @@ pub(crate) fn apply(package: &Package, function: usize, place: usize, instructio
 {
     match act_of(package, function, instruction) {
         Some(act) => shape.perform(&act, package.variables(function), function, place),
-        None => Err(Refusal::Code { fault: CodeFault::PoolIndex, function, place }),
+        None => Err(Refusal::Code {
+            fault: CodeFault::PoolIndex,
+            function,
+            place,
+        }),
     }
 }
 

@@ -4,7 +4,6 @@ ghost use Prim.Native.Nat.{ℕ};
 ghost use Rattle.bytecode.specs.Instructions.{sizeOf};
 ghost use Rattle.plan.specs.Plans.{successors};
 ghost use Rattle.verifier.specs.Flows.{followers};
-
 use bytecode::instruction::Instruction;
 
 /// To the next place, there and to a branch's target, to a target alone, or nowhere. Targets are offsets from the instruction's own place.
@@ -20,7 +19,9 @@ pub(crate) fn flow_of(instruction: Instruction) -> Flow
     ensures { λ r. ⌜ ((p : ℕ) → successors p instruction ≡ followers p (sizeOf instruction) r) ⌝ }
 {
     match instruction {
-        Instruction::IfCmpeq(offset) | Instruction::IfCmpne(offset) | Instruction::IfIcmp(_, offset) => Flow::Branch(offset),
+        Instruction::IfCmpeq(offset)
+        | Instruction::IfCmpne(offset)
+        | Instruction::IfIcmp(_, offset) => Flow::Branch(offset),
         Instruction::Goto(offset) => Flow::Jump(offset),
         Instruction::Return => Flow::End,
         Instruction::Nop

@@ -12,7 +12,6 @@ ghost use Rattle.reader.specs.View.{programOf, codeSize};
 ghost use Rattle.shapes.specs.Records.{blankRecord};
 ghost use Rattle.verifier.specs.Swept.{workingAll, finished};
 ghost use Rattle.verifier.specs.Checking.{checkOf, answered, answerOf, tableAfter, tablesIn, Checked, Decides};
-
 use crate::starts::mark_all;
 use crate::sweep::sweep_all;
 use bytecode::refusal::Refusal;
@@ -84,7 +83,10 @@ fn judge<'a>(bytes: &'a [u8], table: &mut [ShapeRecord]) -> Result<Accepted<'a>,
     }
     mark_all(&package, table)?;
     let takes = sweep_all(&package, table)?;
-    Ok(Accepted { program: Program { contents: package }, takes })
+    Ok(Accepted {
+        program: Program { contents: package },
+        takes,
+    })
 }
 
 /// Checks a package. If it is accepted, the table holds the fullest plan of each of its functions, one record for each byte of code;

@@ -13,7 +13,6 @@ ghost use Rattle.plan.specs.Plans.{startsAt};
 ghost use Rattle.plan.specs.Sweep.{decodeAll};
 ghost use Rattle.reader.specs.View.{programOf, Fitting};
 ghost use Rattle.shapes.specs.Records.{blankRecord};
-
 use bytecode::instruction::decode;
 use bytecode::refusal::CodeFault;
 use bytecode::refusal::Refusal;
@@ -31,7 +30,11 @@ fn mark_starts(function: usize, code: &[u8], table: &mut [ShapeRecord]) -> Resul
     let mut place = 0;
     while place < code.len() {
         let Some(instruction) = decode(code, place) else {
-            return Err(Refusal::Code { fault: CodeFault::Opcode, function, place });
+            return Err(Refusal::Code {
+                fault: CodeFault::Opcode,
+                function,
+                place,
+            });
         };
         table[place].mark = ShapeMark::Start;
         place += instruction.size();
@@ -40,7 +43,12 @@ fn mark_starts(function: usize, code: &[u8], table: &mut [ShapeRecord]) -> Resul
 }
 
 // The same for a function of a package, whose part of the table begins at `from`; answers where the next part begins.
-fn mark_part(package: &Package, function: usize, table: &mut [ShapeRecord], from: usize) -> Result<usize, Refusal>
+fn mark_part(
+    package: &Package,
+    function: usize,
+    table: &mut [ShapeRecord],
+    from: usize,
+) -> Result<usize, Refusal>
     requires fitting { ⌜ Fitting (now «package») ⌝ }
     requires inside { ⌜ function < now «package» .«function_count» ⌝ }
     requires room { ⌜ from + length (codeAt (programOf (now «package»)) function) ≤ length (now table) ⌝ }

@@ -13,7 +13,6 @@ ghost use Rattle.reader.specs.View.{programOf, Fitting};
 ghost use Rattle.shapes.specs.Records.{cellOf, shapeIn, noRecord, workingRecord, Neat};
 ghost use Rattle.verifier.specs.Fresh.{freshRecord, freshAll, AllDecoded};
 ghost use Rattle.verifier.specs.Swept.{sweptTable, allTables, workingAll};
-
 use crate::effect::apply;
 use crate::effect::entry;
 use crate::worklist::go_on;
@@ -27,7 +26,12 @@ use shapes::table::ShapeMark;
 use shapes::table::ShapeRecord;
 
 // Takes the lowest marked place: unmarks it, applies its instruction and goes on. Answers a bound below which nothing is marked.
-fn visit(package: &Package, function: usize, table: &mut [ShapeRecord], place: usize) -> Result<usize, Refusal>
+fn visit(
+    package: &Package,
+    function: usize,
+    table: &mut [ShapeRecord],
+    place: usize,
+) -> Result<usize, Refusal>
     requires fitting { ⌜ Fitting (now «package») ⌝ }
     requires inside { ⌜ function < now «package» .«function_count» ⌝ }
     requires size { ⌜ length (now table) ≡ length (codeAt (programOf (now «package»)) function) ⌝ }
@@ -39,7 +43,11 @@ fn visit(package: &Package, function: usize, table: &mut [ShapeRecord], place: u
     ensures low { λ r. ⌜ made r (λ n. n ≤ lowestOf (map cellOf (now (table .exit)))) ⌝ }
 {
     let Some(instruction) = decode(package.code(function), place) else {
-        return Err(Refusal::Code { fault: CodeFault::Opcode, function, place });
+        return Err(Refusal::Code {
+            fault: CodeFault::Opcode,
+            function,
+            place,
+        });
     };
     table[place].mark = ShapeMark::Shaped;
     let mut shape = table[place];
@@ -48,7 +56,11 @@ fn visit(package: &Package, function: usize, table: &mut [ShapeRecord], place: u
 }
 
 // Sweeps a function, in its part of the table, where nothing but the starts is marked. Answers how many takes there were.
-pub(crate) fn sweep_function(package: &Package, function: usize, table: &mut [ShapeRecord]) -> Result<usize, Refusal>
+pub(crate) fn sweep_function(
+    package: &Package,
+    function: usize,
+    table: &mut [ShapeRecord],
+) -> Result<usize, Refusal>
     requires fitting { ⌜ Fitting (now «package») ⌝ }
     requires inside { ⌜ function < now «package» .«function_count» ⌝ }
     requires fresh { ⌜ now table ≡ map freshRecord (startsAt (programOf (now «package»)) function) ⌝ }
@@ -71,7 +83,12 @@ pub(crate) fn sweep_function(package: &Package, function: usize, table: &mut [Sh
 }
 
 // The same for a function whose part of the table begins at `from`.
-fn sweep_part(package: &Package, function: usize, table: &mut [ShapeRecord], from: usize) -> Result<usize, Refusal>
+fn sweep_part(
+    package: &Package,
+    function: usize,
+    table: &mut [ShapeRecord],
+    from: usize,
+) -> Result<usize, Refusal>
     requires fitting { ⌜ Fitting (now «package») ⌝ }
     requires inside { ⌜ function < now «package» .«function_count» ⌝ }
     requires room { ⌜ from + length (codeAt (programOf (now «package»)) function) ≤ length (now table) ⌝ }

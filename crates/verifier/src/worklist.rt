@@ -8,7 +8,6 @@ ghost use Rattle.bytecode.specs.Outcome.{told};
 ghost use Rattle.plan.specs.Plans.{successors};
 ghost use Rattle.plan.specs.Sweep.{lowest as lowestOf, put as putOf, spread as spreadOf};
 ghost use Rattle.shapes.specs.Records.{cellOf, shapeIn, Tidy, Neat};
-
 use crate::flow::Flow;
 use crate::flow::flow_of;
 use bytecode::instruction::Instruction;
@@ -35,7 +34,14 @@ pub(crate) fn lowest(table: &[ShapeRecord], from: usize) -> usize
 }
 
 // A shape goes on from a place to the next or to a target. Nothing is marked below `low`; answers such a bound for the table afterwards.
-pub(crate) fn go_on(table: &mut [ShapeRecord], shape: &ShapeRecord, function: usize, from: usize, to: Option<usize>, low: usize) -> Result<usize, Refusal>
+pub(crate) fn go_on(
+    table: &mut [ShapeRecord],
+    shape: &ShapeRecord,
+    function: usize,
+    from: usize,
+    to: Option<usize>,
+    low: usize,
+) -> Result<usize, Refusal>
     requires neat { ⌜ Neat (now table) ⌝ }
     requires tidy { ⌜ Tidy (now shape) ⌝ }
     requires low { ⌜ low ≤ lowestOf (map cellOf (now table)) ⌝ }
@@ -44,10 +50,18 @@ pub(crate) fn go_on(table: &mut [ShapeRecord], shape: &ShapeRecord, function: us
     ensures low { λ r. ⌜ made r (λ n. n ≤ lowestOf (map cellOf (now (table .exit)))) ⌝ }
 {
     let Some(place) = to else {
-        return Err(Refusal::Code { fault: CodeFault::NoStart, function, place: from });
+        return Err(Refusal::Code {
+            fault: CodeFault::NoStart,
+            function,
+            place: from,
+        });
     };
     if place >= table.len() {
-        return Err(Refusal::Code { fault: CodeFault::NoStart, function, place: from });
+        return Err(Refusal::Code {
+            fault: CodeFault::NoStart,
+            function,
+            place: from,
+        });
     }
     join(&mut table[place], shape, function, from, place)?;
     match table[place].mark {
@@ -57,7 +71,13 @@ pub(crate) fn go_on(table: &mut [ShapeRecord], shape: &ShapeRecord, function: us
 }
 
 // A shape goes on to every place that follows an instruction.
-pub(crate) fn spread(table: &mut [ShapeRecord], shape: &ShapeRecord, function: usize, place: usize, instruction: Instruction) -> Result<usize, Refusal>
+pub(crate) fn spread(
+    table: &mut [ShapeRecord],
+    shape: &ShapeRecord,
+    function: usize,
+    place: usize,
+    instruction: Instruction,
+) -> Result<usize, Refusal>
     requires neat { ⌜ Neat (now table) ⌝ }
     requires tidy { ⌜ Tidy (now shape) ⌝ }
     requires inside { ⌜ place < 4096 ⌝ }
@@ -75,7 +95,14 @@ pub(crate) fn spread(table: &mut [ShapeRecord], shape: &ShapeRecord, function: u
             let low = go_on(table, shape, function, place, first, place + 1)?;
             go_on(table, shape, function, place, second, low)
         }
-        Flow::Jump(offset) => go_on(table, shape, function, place, target(place, offset), place + 1),
+        Flow::Jump(offset) => go_on(
+            table,
+            shape,
+            function,
+            place,
+            target(place, offset),
+            place + 1,
+        ),
         Flow::End => Ok(place + 1),
     }
 }

@@ -19,6 +19,7 @@ use verifier::program::Accepted;
 use verifier::program::check;
 
 const RECORDS: usize = 4096;
+
 const FEW_RECORDS: usize = 8;
 
 fn is_blank(record: &ShapeRecord) -> bool {
@@ -42,7 +43,11 @@ fn is_all_blank(table: &[ShapeRecord]) -> bool {
     true
 }
 
-fn print_verdict(rt: &LibcRuntime, answer: Result<Accepted<'_>, Refusal>, table: &[ShapeRecord]) -> io::Result<()>
+fn print_verdict(
+    rt: &LibcRuntime,
+    answer: Result<Accepted<'_>, Refusal>,
+    table: &[ShapeRecord],
+) -> io::Result<()>
     requires { ⌜ made answer (λ a. Checked (a .program)) ⌝ }
 {
     match answer {
@@ -62,7 +67,12 @@ fn print_verdict(rt: &LibcRuntime, answer: Result<Accepted<'_>, Refusal>, table:
     }
 }
 
-fn run_case(rt: &LibcRuntime, text: &[u8], buffer: &mut [u8], table: &mut [ShapeRecord]) -> io::Result<()> {
+fn run_case(
+    rt: &LibcRuntime,
+    text: &[u8],
+    buffer: &mut [u8],
+    table: &mut [ShapeRecord],
+) -> io::Result<()> {
     let count = match load(&mut HexText::new(text), buffer) {
         Ok(count) => count.min(buffer.len()),
         Err(fault) => {
@@ -73,7 +83,11 @@ fn run_case(rt: &LibcRuntime, text: &[u8], buffer: &mut [u8], table: &mut [Shape
     let few = FEW_RECORDS.min(table.len());
     print_verdict(rt, check(&buffer[0..count], table), table)?;
     print!(rt, "; ")?;
-    print_verdict(rt, check(&buffer[0..count], &mut table[0..few]), &table[0..few])?;
+    print_verdict(
+        rt,
+        check(&buffer[0..count], &mut table[0..few]),
+        &table[0..few],
+    )?;
     println!(rt)
 }
 

@@ -7,12 +7,13 @@ use borrow.Author.Count.{below-more}
 use Rattle.shapes.proofs.kinds.clear.Needs as need
 
 pub loop-i-again : need.loop-i-again
-loop-i-again c =
-    ( below-more _ _ (λ k h l. let ne : k ≢ c .loop-i .i = omega arith in rw getD-set-other (c .loop-i .inv .0 k h l))
-        (λ l. let lt : c .loop-i .i < length (c .loop-i .entries) = omega arith in rw getD-set-same)
-    , λ k h. let ne : k ≢ c .loop-i .i = omega arith in rw getD-set-other (c .loop-i .inv .1 k h)
-    , λ k h. let ne : k ≢ c .loop-i .i = omega arith in rw getD-set-other (c .loop-i .inv .2 k h)
-    , simp length-set (c .loop-i .inv .3))
+loop-i-again c = (
+  below-more _ _ (λ k h l. let ne : k ≢ c .loop-i .i = omega arith in rw getD-set-other (c .loop-i .inv .0 k h l))
+      (λ l. let lt : c .loop-i .i < length (c .loop-i .entries) = omega arith in rw getD-set-same),
+  λ k h. let ne : k ≢ c .loop-i .i = omega arith in rw getD-set-other (c .loop-i .inv .1 k h),
+  λ k h. let ne : k ≢ c .loop-i .i = omega arith in rw getD-set-other (c .loop-i .inv .2 k h),
+  simp length-set (c .loop-i .inv .3),
+)
 
 pub returns : need.returns
 returns c =

@@ -18,15 +18,18 @@ returns-in-Start c = record { met = join-start _ _ _ _ _ _ (c .in-Start .is); wh
 
 pub returns-then-narrow : need.returns-then-narrow
 returns-then-narrow c =
-    record
-      { met = join-less _ _ _ _ _ _ (c .in-rest .not-Blank) (c .in-rest .not-Start) _ (c .narrow .ensures .met) (c .if-not-same-stack .ensures tt) (c .if-narrow .ensures tt .changed)
-      ; whole = record { tidy = tidy-variables _ _ (c .args .«record» .now) (c .pre .«record» .tidy) (ap length (c .narrow .ensures .met) ∙ length-meet _ _ ∙ c .pre .«record» .tidy .wide); vacant = inl tt } }
+    record {
+      met = join-less _ _ _ _ _ _ (c .in-rest .not-Blank) (c .in-rest .not-Start) _ (c .narrow .ensures .met) (c .if-not-same-stack .ensures tt) (c .if-narrow .ensures tt .changed);
+      whole = record { tidy = tidy-variables _ _ (c .args .«record» .now) (c .pre .«record» .tidy) (ap length (c .narrow .ensures .met) ∙ length-meet _ _ ∙ c .pre .«record» .tidy .wide); vacant = inl tt };
+    }
 
 pub returns-else-narrow : need.returns-else-narrow
 returns-else-narrow c =
-    record
-      { met = join-same _ _ _ _ _ _ (c .in-rest .not-Blank) (c .in-rest .not-Start) _ (c .narrow .ensures .met) (c .if-not-same-stack .ensures tt) (c .if-narrow .ensures tt .changed)
-      ; whole =
-          record
-            { tidy = tidy-variables _ _ (c .args .«record» .now) (c .pre .«record» .tidy) (ap length (c .narrow .ensures .met) ∙ length-meet _ _ ∙ c .pre .«record» .tidy .wide)
-            ; vacant = inl (has-shape _ (c .in-rest .not-Blank) (c .in-rest .not-Start)) } }
+    record {
+      met = join-same _ _ _ _ _ _ (c .in-rest .not-Blank) (c .in-rest .not-Start) _ (c .narrow .ensures .met) (c .if-not-same-stack .ensures tt) (c .if-narrow .ensures tt .changed);
+      whole =
+          record {
+            tidy = tidy-variables _ _ (c .args .«record» .now) (c .pre .«record» .tidy) (ap length (c .narrow .ensures .met) ∙ length-meet _ _ ∙ c .pre .«record» .tidy .wide);
+            vacant = inl (has-shape _ (c .in-rest .not-Blank) (c .in-rest .not-Start));
+          };
+    }

@@ -10,7 +10,7 @@ returns-then-a-b c = sym (depths-differ (c .args .a .now .depth) (c .args .b .no
 pub returns-then-not-same-kind : need.returns-then-not-same-kind
 returns-then-not-same-kind c =
     sym (stacks-differ (c .args .a .now .stack) (c .args .b .now .stack) (c .args .a .now .depth) (c .args .b .now .depth) (c .loop-i .i) (c .if-a-b .left) (c .loop-i-test .taken)
-      (sym (c .if-not-same-kind .ensures tt)))
+    (sym (c .if-not-same-kind .ensures tt)))
 
 pub loop-i-again : need.loop-i-again
 loop-i-again c = below-more _ _ (c .loop-i .inv) (sym (c .if-not-same-kind .ensures tt))

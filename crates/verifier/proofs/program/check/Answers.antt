@@ -16,14 +16,15 @@ returns-in-Ok c =
     let formed = c .in-Ok .ensures tt .formed in
     let met = same-room bytes m room (c .fill .ensures .len) formed (Ok (c .in-Ok .accepted)) (c .in-Ok .ensures tt .met) in
     let memory =
-      accepted-table bytes m room (c .fill .ensures .len) formed (c .in-Ok .accepted) (c .judge .last .table) (c .drop-starts .last .table) (c .in-Ok .ensures tt .met) (c .in-Ok .ensures tt .memory)
-        (c .drop-starts .ensures) in
-    record
-      { met = met
-      ; memory = memory
-      ; lent = c .in-Ok .ensures tt .lent
-      ; checked = c .in-Ok .ensures tt .checked
-      ; decides = decided bytes room (Ok (c .in-Ok .accepted)) (c .drop-starts .last .table) formed met memory }
+    accepted-table bytes m room (c .fill .ensures .len) formed (c .in-Ok .accepted) (c .judge .last .table) (c .drop-starts .last .table) (c .in-Ok .ensures tt .met) (c .in-Ok .ensures tt .memory)
+    (c .drop-starts .ensures) in
+    record {
+      met = met;
+      memory = memory;
+      lent = c .in-Ok .ensures tt .lent;
+      checked = c .in-Ok .ensures tt .checked;
+      decides = decided bytes room (Ok (c .in-Ok .accepted)) (c .drop-starts .last .table) formed met memory;
+    }
 
 pub returns-in-Err : need.returns-in-Err
 returns-in-Err c =
@@ -33,6 +34,6 @@ returns-in-Err c =
     let formed = c .in-Err .ensures tt .formed in
     let met = same-room bytes m room (c .fill .ensures .len) formed (Err (c .in-Err .refusal)) (c .in-Err .ensures tt .met) in
     let memory =
-      refused-table bytes m room (c .fill .ensures .len) formed (c .in-Err .refusal) (c .fill-in-Err .last .self) (c .in-Err .ensures tt .met)
-        (blank-filled _ _ _ _ (c .fill-in-Err .ensures .after (λ y h. h)) (c .blank-record-in-Err .ensures) (c .judge .kept .table)) in
+    refused-table bytes m room (c .fill .ensures .len) formed (c .in-Err .refusal) (c .fill-in-Err .last .self) (c .in-Err .ensures tt .met)
+    (blank-filled _ _ _ _ (c .fill-in-Err .ensures .after (λ y h. h)) (c .blank-record-in-Err .ensures) (c .judge .kept .table)) in
     record { met = met; memory = memory; lent = tt; checked = tt; decides = decided bytes room (Err (c .in-Err .refusal)) (c .fill-in-Err .last .self) formed met memory }

@@ -26,26 +26,28 @@ sweep-part-requires c κs =
     let P : Program = programOf (c .args .«package» .now) in
     let i : ℕ = c .loop-function .function in
     let n = length (P .functions) in
-    record
-      { fitting = c .pre .fitting
-      ; inside = c .loop-function-test .taken
-      ; room =
+    record {
+      fitting = c .pre .fitting;
+      inside = c .loop-function-test .taken;
+      room =
           omega
-          (arith, c .loop-function .inv .1, bytes-in P n i (omega (arith, c .pre .fitting .functionCount)), bytes-all P, c .pre .fitting .codeSum, c .pre .room, c .loop-function .kept .table)
-      ; fresh =
+          (arith, c .loop-function .inv .1, bytes-in P n i (omega (arith, c .pre .fitting .functionCount)), bytes-all P, c .pre .fitting .codeSum, c .pre .room, c .loop-function .kept .table);
+      fresh =
           ap (take (length (codeAt P i))) (c .loop-function .inv .3 ∙ ap (drop (c .loop-function .from)) (c .pre .fresh) ∙ ap (λ k. drop k (freshAll P (length (c .args .table .now)))) (c .loop-function .inv .1)) ∙
-          part-of (freshPart P) P n i _ (omega (arith, c .pre .fitting .functionCount)) (λ g l. fresh-long P g (c .pre .decoded g l))
-      ; decoded = c .pre .decoded i (omega (arith, c .pre .fitting .functionCount)) }
+          part-of (freshPart P) P n i _ (omega (arith, c .pre .fitting .functionCount)) (λ g l. fresh-long P g (c .pre .decoded g l));
+      decoded = c .pre .decoded i (omega (arith, c .pre .fitting .functionCount));
+    }
 
 pub returns-in-Break-takes : need.returns-in-Break-takes
 returns-in-Break-takes c =
     let p = err-from-errBy (c .from-residual .result) (c .from-residual .ensures .1) in
     let P : Program = programOf (c .args .«package» .now) in
     rw (p .1, p .2)
-    (record
-      { met =
-          sweep-fault P (length (P .functions)) (c .loop-function .function) _ (omega (arith, c .pre .fitting .functionCount)) (c .loop-function .inv .0) (c .in-Break-takes .ensures tt .met)
-      ; memory = tt })
+    (record {
+      met =
+          sweep-fault P (length (P .functions)) (c .loop-function .function) _ (omega (arith, c .pre .fitting .functionCount)) (c .loop-function .inv .0) (c .in-Break-takes .ensures tt .met);
+      memory = tt;
+    })
 
 pub add-takes : need.add-takes
 add-takes c =
@@ -62,17 +64,18 @@ loop-function-again c =
     let P : Program = programOf (c .args .«package» .now) in
     let i : ℕ = c .loop-function .function in
     let part : ℕ → List ShapeRecord = λ g. map workingRecord (sweptTable P g) in
-    let e : c .loop-function .from + length (c .code .result .now) ≡ c .loop-function .from + length (codeAt P i) = ap (λ code. c .loop-function .from + length code) (c .code .ensures .met) in
-    ( below-more _ _ (c .loop-function .inv .0) (swept-is P i _ (c .in-Continue-takes .ensures tt .met))
-    , omega (arith, e, c .loop-function .inv .1, bytes-more P i)
-    , ap (λ n. take n (c .sweep-part .last .table)) e ∙
-      part-more part i (c .loop-function .table) (c .sweep-part .last .table) (c .loop-function .from) (length (codeAt P i)) (c .loop-function .inv .2) (c .sweep-part .ensures .before)
-        (c .in-Continue-takes .ensures tt .part)
-    , ap (λ n. drop n (c .sweep-part .last .table)) e ∙ c .sweep-part .ensures .after ∙
-      rest-kept (c .args .table .now) (c .loop-function .table) (c .loop-function .from) (length (codeAt P i)) (c .loop-function .inv .3) ∙
-      ap (λ n. drop n (c .args .table .now)) (sym e)
-    , ap (λ t. t + c .in-Continue-takes .field-0) (c .loop-function .inv .4) ∙ sym (takes-more P i _ (c .in-Continue-takes .ensures tt .met))
-    , omega (arith, e, c .loop-function .inv .5, c .in-Continue-takes .ensures tt .few))
+    let e : c .loop-function .from + length (c .code .result .now) ≡ c .loop-function .from + length (codeAt P i) = ap (λ code. c .loop-function .from + length code) (c .code .ensures .met) in (
+      below-more _ _ (c .loop-function .inv .0) (swept-is P i _ (c .in-Continue-takes .ensures tt .met)),
+      omega (arith, e, c .loop-function .inv .1, bytes-more P i),
+      ap (λ n. take n (c .sweep-part .last .table)) e ∙
+          part-more part i (c .loop-function .table) (c .sweep-part .last .table) (c .loop-function .from) (length (codeAt P i)) (c .loop-function .inv .2) (c .sweep-part .ensures .before)
+          (c .in-Continue-takes .ensures tt .part),
+      ap (λ n. drop n (c .sweep-part .last .table)) e ∙ c .sweep-part .ensures .after ∙
+          rest-kept (c .args .table .now) (c .loop-function .table) (c .loop-function .from) (length (codeAt P i)) (c .loop-function .inv .3) ∙
+          ap (λ n. drop n (c .args .table .now)) (sym e),
+      ap (λ t. t + c .in-Continue-takes .field-0) (c .loop-function .inv .4) ∙ sym (takes-more P i _ (c .in-Continue-takes .ensures tt .met)),
+      omega (arith, e, c .loop-function .inv .5, c .in-Continue-takes .ensures tt .few),
+    )
 
 pub returns : need.returns
 returns c =
@@ -82,14 +85,15 @@ returns c =
     let l : c .loop-function .from ≤ length (c .loop-function .table) = omega (arith, b, bytes-all P, c .pre .fitting .codeSum, c .pre .room, c .loop-function .kept .table) in
     let part : ℕ → List ShapeRecord = λ g. map workingRecord (sweptTable P g) in
     let rest : drop (c .loop-function .from) (c .loop-function .table) ≡ replicate (length (c .loop-function .table) - c .loop-function .from) blankRecord =
-      c .loop-function .inv .3 ∙ ap (drop (c .loop-function .from)) (c .pre .fresh) ∙
-      filled-rest (length (c .args .table .now)) (joinedFrom (freshPart P) (length (P .functions)) 0) (c .loop-function .from)
-        (joined-length (freshPart P) P (length (P .functions)) (λ g l. fresh-long P g (c .pre .decoded g l)) ∙ sym b) ∙
-      ap (λ k. replicate (k - c .loop-function .from) blankRecord) (sym (c .loop-function .kept .table)) in
-    record
-      { met = sweep-done P (length (P .functions)) (c .loop-function .takes) (λ f l. c .loop-function .inv .0 f (omega (arith, n))) (c .loop-function .inv .4 ∙ ap (λ k. takesFrom P k 0) n)
-      ; memory =
+    c .loop-function .inv .3 ∙ ap (drop (c .loop-function .from)) (c .pre .fresh) ∙
+    filled-rest (length (c .args .table .now)) (joinedFrom (freshPart P) (length (P .functions)) 0) (c .loop-function .from)
+    (joined-length (freshPart P) P (length (P .functions)) (λ g l. fresh-long P g (c .pre .decoded g l)) ∙ sym b) ∙
+    ap (λ k. replicate (k - c .loop-function .from) blankRecord) (sym (c .loop-function .kept .table)) in
+    record {
+      met = sweep-done P (length (P .functions)) (c .loop-function .takes) (λ f l. c .loop-function .inv .0 f (omega (arith, n))) (c .loop-function .inv .4 ∙ ap (λ k. takesFrom P k 0) n);
+      memory =
           filled-is (c .loop-function .table) _ (c .loop-function .from) l (c .loop-function .inv .2) rest ∙
           ap (λ k. filled (length (c .loop-function .table)) (joinedFrom part k 0)) n ∙
           ap (λ k. filled k (joinedFrom part (length (P .functions)) 0)) (c .loop-function .kept .table) ∙
-          ap (filled (length (c .args .table .now))) (sym (working-joined P (length (P .functions)) 0)) }
+          ap (filled (length (c .args .table .now))) (sym (working-joined P (length (P .functions)) 0));
+    }

@@ -14,7 +14,7 @@ use Rattle.verifier.proofs.sweep.sweep_function.Given as given
 abbrev pub Inv-loop-table : given.InvT-loop-table
 Inv-loop-table l =
     (sweepFunction (programOf (l .«package»)) (l .function) ≡
-      run (programOf (l .«package»)) (l .function) (most (programOf (l .«package»)) (l .function) (startsAt (programOf (l .«package»)) (l .function)) - l .takes) (l .takes) (map cellOf (l .table))) ×
+    run (programOf (l .«package»)) (l .function) (most (programOf (l .«package»)) (l .function) (startsAt (programOf (l .«package»)) (l .function)) - l .takes) (l .takes) (map cellOf (l .table))) ×
     (l .takes + total (variablesAt (programOf (l .«package»)) (l .function)) (map cellOf (l .table)) ≤ most (programOf (l .«package»)) (l .function) (startsAt (programOf (l .«package»)) (l .function))) ×
     SizedAll (variablesAt (programOf (l .«package»)) (l .function)) (map cellOf (l .table)) ×
     Neat (l .table) ×

@@ -15,16 +15,17 @@ pub returns : need.returns
 returns c =
     let l = ap length (c .code .ensures .met) in
     let k : length (c .sweep-function .last .table) ≡ length (codeAt (programOf (c .args .«package» .now)) (c .args .function)) =
-      omega (arith, l, c .pre .room, simp (length-take, length-drop) at (c .sweep-function .kept .table)) in
-    record
-      { met = told-swept (programOf (c .args .«package» .now)) (c .args .function) (c .sweep-function .last .table) (c .sweep-function .result) (c .sweep-function .ensures .met)
-      ; part =
+    omega (arith, l, c .pre .room, simp (length-take, length-drop) at (c .sweep-function .kept .table)) in
+    record {
+      met = told-swept (programOf (c .args .«package» .now)) (c .args .function) (c .sweep-function .last .table) (c .sweep-function .result) (c .sweep-function .ensures .met);
+      part =
           made-working (programOf (c .args .«package» .now)) (c .args .function) (c .sweep-function .last .table) _ (c .sweep-function .result)
-            (part-read (c .args .from) (length (codeAt (programOf (c .args .«package» .now)) (c .args .function))) _ (c .args .table .now) (c .sweep-function .last .table) (c .pre .room) k)
-            (c .sweep-function .ensures .met) (c .sweep-function .ensures .neat)
-      ; few =
+          (part-read (c .args .from) (length (codeAt (programOf (c .args .«package» .now)) (c .args .function))) _ (c .args .table .now) (c .sweep-function .last .table) (c .pre .room) k)
+          (c .sweep-function .ensures .met) (c .sweep-function .ensures .neat);
+      few =
           made-weaker (c .sweep-function .result) (λ t. t ≤ 33 * length (c .sweep-function .last .table)) (λ t. t ≤ 33 * length (codeAt (programOf (c .args .«package» .now)) (c .args .function)))
-            (λ t h. omega (arith, h, k)) (c .sweep-function .ensures .few)
-      ; before = search (needs, overwrites)
-      ; after =
-          part-after (c .args .from) (length (codeAt (programOf (c .args .«package» .now)) (c .args .function))) _ (c .args .table .now) (c .sweep-function .last .table) (c .pre .room) (omega (arith, l)) k }
+          (λ t h. omega (arith, h, k)) (c .sweep-function .ensures .few);
+      before = search (needs, overwrites);
+      after =
+          part-after (c .args .from) (length (codeAt (programOf (c .args .«package» .now)) (c .args .function))) _ (c .args .table .now) (c .sweep-function .last .table) (c .pre .room) (omega (arith, l)) k;
+    }

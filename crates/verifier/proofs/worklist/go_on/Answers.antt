@@ -14,22 +14,25 @@ pub returns-in-Break-join : need.returns-in-Break-join
 returns-in-Break-join c =
     let p = err-from-errBy (c .from-residual .result) (c .from-residual .ensures .1) in
     rw (p .1, p .2)
-    (record
-      { met = put-fault _ _ (c .args .table .now) (c .args .to) _ (c .in-Some .place) _ (c .in-Some .is) (c .in-Break-join .ensures tt .met)
-      ; neat = neat-set (c .args .table .now) _ _ (c .pre .neat) (c .join .ensures .whole)
-      ; low = tt })
+    (record {
+      met = put-fault _ _ (c .args .table .now) (c .args .to) _ (c .in-Some .place) _ (c .in-Some .is) (c .in-Break-join .ensures tt .met);
+      neat = neat-set (c .args .table .now) _ _ (c .pre .neat) (c .join .ensures .whole);
+      low = tt;
+    })
 
 pub returns-in-Due : need.returns-in-Due
 returns-in-Due c =
-    record
-      { met = put-fine _ _ (c .args .table .now) (c .args .to) _ (c .in-Some .place) _ (c .in-Some .is) (c .in-Continue-join .ensures tt .met)
-      ; neat = neat-set (c .args .table .now) _ _ (c .pre .neat) (c .join .ensures .whole)
-      ; low =
-          bound-marked (c .args .table .now) (c .args .low) (c .in-Some .place) _ (c .pre .low) _ (omega (arith, c .min .ensures)) (omega (arith, c .min .ensures)) }
+    record {
+      met = put-fine _ _ (c .args .table .now) (c .args .to) _ (c .in-Some .place) _ (c .in-Some .is) (c .in-Continue-join .ensures tt .met);
+      neat = neat-set (c .args .table .now) _ _ (c .pre .neat) (c .join .ensures .whole);
+      low =
+          bound-marked (c .args .table .now) (c .args .low) (c .in-Some .place) _ (c .pre .low) _ (omega (arith, c .min .ensures)) (omega (arith, c .min .ensures));
+    }
 
 pub returns-in-rest-mark : need.returns-in-rest-mark
 returns-in-rest-mark c =
-    record
-      { met = put-fine _ _ (c .args .table .now) (c .args .to) _ (c .in-Some .place) _ (c .in-Some .is) (c .in-Continue-join .ensures tt .met)
-      ; neat = neat-set (c .args .table .now) _ _ (c .pre .neat) (c .join .ensures .whole)
-      ; low = bound-unmarked (c .args .table .now) (c .args .low) (c .in-Some .place) _ (c .pre .low) _ (c .if-place-table .left) (c .in-rest-mark .not-Due) }
+    record {
+      met = put-fine _ _ (c .args .table .now) (c .args .to) _ (c .in-Some .place) _ (c .in-Some .is) (c .in-Continue-join .ensures tt .met);
+      neat = neat-set (c .args .table .now) _ _ (c .pre .neat) (c .join .ensures .whole);
+      low = bound-unmarked (c .args .table .now) (c .args .low) (c .in-Some .place) _ (c .pre .low) _ (c .if-place-table .left) (c .in-rest-mark .not-Due);
+    }

@@ -12,4 +12,4 @@ returns-then-same-kind c = record { met = load-none _ _ _ _ (shapeIn (c .args .s
 pub returns : need.returns
 returns c =
     record
-      { met = load-some _ _ _ _ (shapeIn (c .args .self .now)) (c .if-variable-count .left) (c .if-same-kind .ensures tt) ∙ c .push .ensures .met; tidy = c .push .ensures .tidy }
+    { met = load-some _ _ _ _ (shapeIn (c .args .self .now)) (c .if-variable-count .left) (c .if-same-kind .ensures tt) ∙ c .push .ensures .met; tidy = c .push .ensures .tidy }

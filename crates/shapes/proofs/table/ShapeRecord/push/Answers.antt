@@ -9,8 +9,9 @@ returns-then-self-ge32 c = record { met = push-full _ _ _ (c .args .self .now .d
 
 pub returns : need.returns
 returns c =
-    record
-      { met =
+    record {
+      met =
           push-fine _ _ _ (c .args .self .now .depth) _ _ (c .if-self-ge32 .left) ∙
-          ap (λ st. good (record { stack = st; variables = c .args .self .now .variables })) (sym (stack-pushed (c .args .self .now) _ (c .pre .tidy) (c .if-self-ge32 .left)))
-      ; tidy = tidy-pushed (c .args .self .now) _ (c .pre .tidy) (c .if-self-ge32 .left) }
+          ap (λ st. good (record { stack = st; variables = c .args .self .now .variables })) (sym (stack-pushed (c .args .self .now) _ (c .pre .tidy) (c .if-self-ge32 .left)));
+      tidy = tidy-pushed (c .args .self .now) _ (c .pre .tidy) (c .if-self-ge32 .left);
+    }

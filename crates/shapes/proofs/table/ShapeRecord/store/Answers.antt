@@ -17,8 +17,9 @@ returns-then-self-eq0 c = record { met = store-empty _ _ _ _ (c .args .self .now
 
 pub returns : need.returns
 returns c =
-    record
-      { met =
+    record {
+      met =
           store-some _ _ _ _ (c .args .self .now .depth) _ _ (c .if-variable-count .left) (c .if-self-eq0 .left) ∙
-          ap (λ (s : Shape). good (record { stack = s .stack; variables = set (s .variables) (c .args .variable) (getD (c .args .self .now .stack) (c .args .self .now .depth - 1) Unknown) })) (sym (c .lower .ensures .shape))
-      ; tidy = tidy-variables _ _ (c .lower .last .self) (c .lower .ensures .tidy) (length-set _ _ _ ∙ c .lower .ensures .tidy .wide) }
+          ap (λ (s : Shape). good (record { stack = s .stack; variables = set (s .variables) (c .args .variable) (getD (c .args .self .now .stack) (c .args .self .now .depth - 1) Unknown) })) (sym (c .lower .ensures .shape));
+      tidy = tidy-variables _ _ (c .lower .last .self) (c .lower .ensures .tidy) (length-set _ _ _ ∙ c .lower .ensures .tidy .wide);
+    }

@@ -8,6 +8,7 @@ returns-then-self-lt2 c = record { met = swap-few _ _ (c .args .self .now .depth
 
 pub returns : need.returns
 returns c =
-    record
-      { met = swap-some _ _ (c .args .self .now .depth) _ _ (c .if-self-lt2 .left) (omega (arith, c .pre .tidy .low, c .pre .tidy .long))
-      ; tidy = tidy-entries (c .args .self .now) _ _ _ _ (c .pre .tidy) (omega arith) (omega arith) }
+    record {
+      met = swap-some _ _ (c .args .self .now .depth) _ _ (c .if-self-lt2 .left) (omega (arith, c .pre .tidy .low, c .pre .tidy .long));
+      tidy = tidy-entries (c .args .self .now) _ _ _ _ (c .pre .tidy) (omega arith) (omega arith);
+    }

@@ -12,6 +12,7 @@ returns-then-not-same-kind c =
 
 pub returns : need.returns
 returns c =
-    record
-      { met = alike-case _ _ (c .args .self .now .depth) _ _ _ (c .if-self-lt2 .left) (c .if-not-same-kind .ensures tt) ∙ ap good (sym (c .lower .ensures .shape))
-      ; tidy = c .lower .ensures .tidy }
+    record {
+      met = alike-case _ _ (c .args .self .now .depth) _ _ _ (c .if-self-lt2 .left) (c .if-not-same-kind .ensures tt) ∙ ap good (sym (c .lower .ensures .shape));
+      tidy = c .lower .ensures .tidy;
+    }
