@@ -24,26 +24,28 @@ use Rattle.verifier.proofs.Forming.{well-formed}
 
 pub small : (p : Package) → Fitting p → Small (programOf p)
 small p h =
-    record
-      { integers = λ c n e.
+    record {
+      integers = λ c n e.
           let count : ℕ = p .«integer_count» in
           let read = λ (k : ℕ). four (now (p .bytes)) (p .integers + 4 * k) in
           let inside = nth-inside (programOf p .integers) c n e in
           let size = length-map-counting read 0 count in
           let lt : c < count = omega arith in
           let is = sym (nth-getD (programOf p .integers) c 0 n e) ∙ getD-map-counting read 0 count c c 0 lt (omega arith) in
-          subst (λ x. x < 2 ^ 32) (sym is) (h .front .words c lt)
-      ; strings = let a = h .stringSize in let b = h .front .stringsInside in let c = h .front .short in omega arith }
+          subst (λ x. x < 2 ^ 32) (sym is) (h .front .words c lt);
+      strings = let a = h .stringSize in let b = h .front .stringsInside in let c = h .front .short in omega arith;
+    }
 
 -- with any plans that are the fullest
 pub accepted : (p : Program) → Checked p → (plans : Plans) → ((f : ℕ) → f < length (meaningOf p .functions) → Fullest (meaningOf p) f (plans f)) → Accepted (meaningOf p) plans
 accepted p h plans fullest =
-    record
-      { formed = well-formed (p .contents) (h .fitting)
-      ; some = let a = h .fitting .functionCount in let b = h .fitting .someFunctions in omega arith
-      ; plain = h .fitting .functions .takes
-      ; word = h .fitting .functions .gives
-      ; fullest = fullest }
+    record {
+      formed = well-formed (p .contents) (h .fitting);
+      some = let a = h .fitting .functionCount in let b = h .fitting .someFunctions in omega arith;
+      plain = h .fitting .functions .takes;
+      word = h .fitting .functions .gives;
+      fullest = fullest;
+    }
 
 -- the sweep's tables are such plans
 pub swept : (p : Program) (h : Checked p) (f : ℕ) → f < length (meaningOf p .functions) → Fullest (meaningOf p) f (planOf (getD (h .tables) f []))
