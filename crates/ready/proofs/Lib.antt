@@ -1,0 +1,3 @@
+pub mod Safety
+pub mod Staying
+pub mod Beginning
