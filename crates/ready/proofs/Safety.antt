@@ -269,8 +269,8 @@ fetched P l o = at (o .checked) (o .sound) (o .represented)
                 { few-slots = o .few-slots
                 ; few-frames = o .few-frames
                 ; place = omega arith
-                ; top = let a = flat-length f p vs st rest in let b = r .top in
-                    let c = enough P plans ok (o .sizes) f p vs st rest h l d callers r in let e = low P plans ok (o .sizes) f p vs st rest h l d callers r in omega arith
+                ; top = let a = flat-length f p vs st rest in let b = r .top in let c = taken-slots P plans ok f rest callers in let e = ap reserve (d .known) in
+                    let g = d .sized in let k = r .reserves in let n = low P plans ok (o .sizes) f p vs st rest h l d callers r in omega arith
                 ; callers = let a = r .callers in let b = r .free in let c = r .frame-count in omega arith
                 ; reserved = let a = r .reserves in let b = r .roomy in let c = r .slot-count in omega arith
                 ; storage = r .heap .sound }

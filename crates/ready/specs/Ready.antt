@@ -18,7 +18,7 @@ use Rattle.checked.specs.Runs.{Next, goes, ends, stops, breaks}
 use Rattle.checked.specs.Machine.{Conf, Sizes}
 use Rattle.checked.specs.Law.{Plans, Accepted}
 use Rattle.checked.specs.Sound.{Sound}
-use Rattle.runtime.specs.Runtime.{State, slot, firstArgument}
+use Rattle.runtime.specs.Runtime.{State, slot, firstArgument, callerAt, endOf}
 use Rattle.runtime.specs.Relation.{Small, Represented}
 
 -- no code has more than 4,096 bytes
@@ -45,7 +45,7 @@ pub record Bounds (l : State) : Type 0 where
   pub few-slots : length (l .slots) < 2 ^ 32
   pub few-frames : length (l .frames) < 2 ^ 32
   pub place : l .place < 2 ^ 32
-  pub top : l .top ≤ length (l .slots)
+  pub top : l .top ≤ l .reserved
   pub callers : l .callers < length (l .frames)
   pub reserved : l .reserved ≤ length (l .slots)
   pub storage : SoundStorage (l .storage)
@@ -123,3 +123,15 @@ pub record Fetched (P : Program) (l : State) : Type 0 where
   pub short : length (functionAt P (l .function) .code) ≤ 4096
   pub bounds : Bounds l
   pub safe : Safe P instruction l
+
+-- ## What can be seen
+
+-- the function of every frame is there, and its variables lie before the frame's end
+abbrev pub FrameInside : Program → ℕ → ℕ → ℕ → Type 0
+FrameInside P f base end = (f < length (P .functions)) × (base + variablesAt P f ≤ end)
+
+pub record Framed (P : Program) (l : State) : Type 0 where
+  pub inside : l .callers ≤ length (l .frames)
+  pub few : length (l .frames) < 2 ^ 32
+  pub newest : FrameInside P (l .function) (l .base) (l .top)
+  pub callers : (j : ℕ) → j < l .callers → FrameInside P (callerAt l j .function) (callerAt l j .base) (endOf l j)
