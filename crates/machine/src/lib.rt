@@ -1,5 +1,8 @@
 // The machine: runs an accepted program over lent memory, a number of steps at a time.
 mod fetch;
+mod run;
+pub mod sizes;
+mod start;
 mod step;
 
 use bytecode::stop::Stop;

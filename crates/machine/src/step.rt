@@ -46,3 +46,30 @@ fn ask<H: Host>(program: &Package<'_>, execution: &mut Execution<'_>, host: &mut
         Reply::Stop(fault) => Flow::Stops(Stop::Host(fault)),
     }
 }
+
+// Executes an instruction, to go on at the next place.
+fn execute<H: Host>(program: &Package<'_>, execution: &mut Execution<'_>, host: &mut H, instruction: Instruction, next: usize) -> Flow
+    requires fitting { ⌜ Fitting (now program) ⌝ }
+    requires bounds { ⌜ Bounds (stateOf (now execution)) ⌝ }
+    requires safe { ⌜ Safe (programOf (now program)) instruction (stateOf (now execution)) ⌝ }
+    requires whole { ⌜ Whole (act (programOf (now program)) (H·Host .make) instruction next (stateOf (now execution)) (H·Host .state (now host))) ⌝ }
+    ensures met { λ r. ⌜ lifted (H·Host .state (now (host .exit))) (comes r (stateOf (now (execution .exit)))) ≡ act (programOf (now (program .entry))) (H·Host .make) instruction next (stateOf (now (execution .entry))) (H·Host .state (now (host .entry))) ⌝ }
+    ensures still { λ r. ⌜ Still r (stateOf (now (execution .entry))) (stateOf (now (execution .exit))) ⌝ }
+{
+    if let Instruction::Invokenative(native) = instruction {
+        return ask(program, execution, host, native as usize, next);
+    }
+    execution.execute(program, instruction, next)
+}
+
+/// One step of a program: fetches the next instruction and executes it.
+pub(crate) fn step<H: Host>(program: &Package<'_>, execution: &mut Execution<'_>, host: &mut H) -> Flow
+    requires fitting { ⌜ Fitting (now program) ⌝ }
+    requires ready { ⌜ Ready (programOf (now program)) (stateOf (now execution)) ⌝ }
+    ensures met { λ r. ⌜ lifted (H·Host .state (now (host .exit))) (comes r (stateOf (now (execution .exit)))) ≡ stepping (programOf (now (program .entry))) (H·Host .make) (stateOf (now (execution .entry))) (H·Host .state (now (host .entry))) ⌝ }
+    ensures still { λ r. ⌜ Still r (stateOf (now (execution .entry))) (stateOf (now (execution .exit))) ⌝ }
+{
+    let place = execution.place();
+    let instruction = fetch(program, execution.function(), place);
+    execute(program, execution, host, instruction, place + instruction.size())
+}

@@ -46,6 +46,38 @@ whole-inside code p i e = pick (instructionOf (byteAt code p) (byteAt code (p + 
     pick None e = absurd (let z : _≡_ {A = ℕ} 0 1 = cc in let b : ⊥ = omega arith in b)
     pick (Some j) e = tested (leb (p + sizeOf j) (length code)) j refl e
 
+-- every instruction has a byte
+pub some-size : (i : Instruction) → 1 ≤ sizeOf i
+some-size Nop = omega arith
+some-size Pop = omega arith
+some-size Dup = omega arith
+some-size Swap = omega arith
+some-size AconstNull = omega arith
+some-size (Aldc c) = omega arith
+some-size (Bipush b) = omega arith
+some-size (Ildc c) = omega arith
+some-size (Vload i) = omega arith
+some-size (Vstore i) = omega arith
+some-size (Binary op) = omega arith
+some-size (IfCmpeq o) = omega arith
+some-size (IfCmpne o) = omega arith
+some-size (IfIcmp order o) = omega arith
+some-size (Goto o) = omega arith
+some-size (Invokestatic c) = omega arith
+some-size (Invokenative c) = omega arith
+some-size Return = omega arith
+some-size (New b) = omega arith
+some-size (Newarray b) = omega arith
+some-size Arraylength = omega arith
+some-size (Aaddf b) = omega arith
+some-size Aadds = omega arith
+some-size Imload = omega arith
+some-size Cmload = omega arith
+some-size Amload = omega arith
+some-size Imstore = omega arith
+some-size Cmstore = omega arith
+some-size Amstore = omega arith
+
 module _ (P : Program) (plans : Plans) (ok : Accepted P plans) (sizes : Sizes) (f p : ℕ) (vs : List (Option Value)) (st : List Value)
   (rest : List Frame) (h : Heap) (l : State) (d : Fits P plans f p vs (map kindOf st)) (callers : Callers P plans f rest)
   (r : Represents P sizes f p vs st rest h l) where
@@ -255,14 +287,16 @@ fetched P l o = at (o .checked) (o .sound) (o .represented)
         let decoded : decodeAt (functionAt P (l .function) .code) (l .place) ≡ Some (x .instruction) =
           subst (λ g. decodeAt (functionAt P g .code) (l .place) ≡ Some (x .instruction)) (sym (r .function))
             (ap (decodeAt (functionAt P f .code)) (r .place) ∙ x .decoded) in
-        let inside = whole-inside (functionAt P (l .function) .code) (l .place) (x .instruction) decoded in
+        let whole = whole-inside (functionAt P (l .function) .code) (l .place) (x .instruction) decoded in
+        let some = some-size (x .instruction) in
         let few : length (functionAt P (l .function) .code) ≤ 4096 =
           subst (λ g. length (functionAt P g .code) ≤ 4096) (sym (r .function)) (subst (λ g. length (g .code) ≤ 4096) (sym self) (o .short f (d .self) (d .known))) in
         record
           { function = subst (λ g. g < length (P .functions)) (sym (r .function)) (nth-within (P .functions) f (d .self) (d .known))
           ; instruction = x .instruction
           ; decoded = decoded
-          ; inside = inside
+          ; inside = omega arith
+          ; whole = whole
           ; short = few
           ; bounds =
               record

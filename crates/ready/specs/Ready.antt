@@ -119,7 +119,8 @@ pub record Fetched (P : Program) (l : State) : Type 0 where
   pub function : l .function < length (P .functions)
   pub instruction : Instruction
   pub decoded : decodeAt (functionAt P (l .function) .code) (l .place) ≡ Some instruction
-  pub inside : l .place + sizeOf instruction ≤ length (functionAt P (l .function) .code)
+  pub inside : l .place < length (functionAt P (l .function) .code)
+  pub whole : l .place + sizeOf instruction ≤ length (functionAt P (l .function) .code)
   pub short : length (functionAt P (l .function) .code) ≤ 4096
   pub bounds : Bounds l
   pub safe : Safe P instruction l
