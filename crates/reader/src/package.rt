@@ -183,12 +183,12 @@ impl<'a> Package<'a> {
     }
 
     /// The index of a native in the host's table.
-    pub fn native_index(&self, native: usize) -> usize
+    pub fn native_index(&self, native: usize) -> u16
         requires fitting { ⌜ Fitting (now self) ⌝ }
         requires inside { ⌜ native < now self .«native_count» ⌝ }
         ensures { λ r. ⌜ r ≡ nativeIn (programOf (now (self .entry))) native .index ⌝ }
     {
-        self.native_at(native).index as usize
+        self.native_at(native).index
     }
 
     /// How many arguments a native takes.

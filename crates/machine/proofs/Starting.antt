@@ -1,0 +1,81 @@
+-- Sizes that are allowed, and the state that a machine is started in: it is ready.
+use mathlib.Core.Path.{_≡_, refl, sym, ap, _∙_, subst}
+use mathlib.Core.List.{List, [], _∷_}
+use mathlib.Core.Bool.{Bool, true, false, cond, _&&_}
+use Prim.Native.Nat.{ℕ, zero, suc, _+_, _^_, _≤_, _<_}
+use native.Mathlib.Omega.{arith}
+use lib.Dec.{leb, ltb}
+use lib.ListN.{length}
+use borrow.Author.Tests.{leb-true, ltb-true, le-leb, lt-ltb, lt-leb}
+use Rattle.std.proofs.shelf.Tests.{and-parts, and-from, and-right}
+use Rattle.std.specs.declared.option.Option.the-variants.{Some, None}
+use Rattle.std.specs.shelf.Lists.{All}
+use Rattle.bytecode.specs.Program.{Program, Function}
+use Rattle.heap.specs.declared.Cell.{Cell}
+use Rattle.heap.specs.declared.BlockRecord.{BlockRecord}
+use Rattle.heap.specs.Storage.{Storage}
+use Rattle.plan.specs.Programs.{nth, functionAt, variablesAt}
+use Rattle.reader.specs.declared.package.Package.{Package}
+use Rattle.reader.specs.View.{programOf, FunctionFormed, Fitting}
+use Rattle.checked.specs.Machine.{Sizes, reserve}
+use Rattle.runtime.specs.declared.FrameRecord.{FrameRecord}
+use Rattle.runtime.specs.Runtime.{State, begins}
+use Rattle.ready.specs.Ready.{Short, Ready}
+use Rattle.ready.proofs.Staying.{nth-function}
+use Rattle.ready.proofs.Beginning.{begins-ready}
+use Rattle.machine.specs.View.{Admitted}
+use Rattle.machine.specs.Sizes.{sizesAllowed}
+
+pub record Allowed (P : Program) (sizes : Sizes) : Type 0 where
+  pub slots : sizes .slots ≤ 8192
+  pub some : 1 ≤ sizes .frames
+  pub frames : sizes .frames ≤ 64
+  pub cells : sizes .cells ≤ 4096
+  pub records : sizes .records ≤ 1024
+  pub main : reserve (nth (P .functions) 0) ≤ sizes .slots
+
+pub allowed-sizes : (P : Program) (sizes : Sizes) → sizesAllowed P sizes ≡ true → Allowed P sizes
+allowed-sizes P sizes e =
+    let a = and-parts (leb (sizes .slots) 8192) _ e in
+    let b = and-parts (ltb 0 (sizes .frames)) _ (a .1) in
+    let c = and-parts (leb (sizes .frames) 64) _ (b .1) in
+    let d = and-parts (leb (sizes .cells) 4096) _ (c .1) in
+    let f = and-parts (leb (sizes .records) 1024) (leb (reserve (nth (P .functions) 0)) (sizes .slots)) (d .1) in
+    record
+      { slots = leb-true (sizes .slots) 8192 (a .0)
+      ; some = let z = ltb-true 0 (sizes .frames) (b .0) in omega arith
+      ; frames = leb-true (sizes .frames) 64 (c .0)
+      ; cells = leb-true (sizes .cells) 4096 (d .0)
+      ; records = leb-true (sizes .records) 1024 (f .0)
+      ; main = leb-true (reserve (nth (P .functions) 0)) (sizes .slots) (f .1) }
+
+pub sizes-allowed : (P : Program) (sizes : Sizes) → Allowed P sizes → sizesAllowed P sizes ≡ true
+sizes-allowed P sizes a =
+    and-from _ _ (le-leb (sizes .slots) 8192 (a .slots)) (and-from _ _ (lt-ltb 0 (sizes .frames) (let z = a .some in omega arith)) (and-from _ _ (le-leb (sizes .frames) 64 (a .frames))
+    (and-from _ _ (le-leb (sizes .cells) 4096 (a .cells)) (and-from _ _ (le-leb (sizes .records) 1024 (a .records)) (le-leb (reserve (nth (P .functions) 0)) (sizes .slots) (a .main))))))
+
+-- what main's frame reserves does not fit
+pub sizes-too-few : (P : Program) (sizes : Sizes) → sizes .slots < reserve (nth (P .functions) 0) → sizesAllowed P sizes ≡ false
+sizes-too-few P sizes lt =
+    and-right (leb (sizes .slots) 8192) _ (and-right (ltb 0 (sizes .frames)) _ (and-right (leb (sizes .frames) 64) _ (and-right (leb (sizes .cells) 4096) _
+    (and-right (leb (sizes .records) 1024) _ (lt-leb (reserve (nth (P .functions) 0)) (sizes .slots) lt)))))
+
+all-nth : {X : Type 0} (Q : X → Type 0) (xs : List X) (i : ℕ) (x : X) → All Q xs → nth xs i ≡ Some x → Q x
+all-nth Q [] i x h e = absurd (let z : _≡_ {A = ℕ} 0 1 = cc in let b : ⊥ = omega arith in b)
+all-nth Q (y ∷ xs) zero x h e = let q : y ≡ x = cc in subst Q q (h .0)
+all-nth Q (y ∷ xs) (suc i) x h e = all-nth Q xs i x (h .1) e
+
+pub short-codes : (p : Package) → Fitting p → Short (programOf p)
+short-codes p fit f g e = all-nth FunctionFormed (programOf p .functions) f g (fit .formed) e .few
+
+pub main-reserves : (p : Package) → Fitting p → reserve (nth (programOf p .functions) 0) ≡ variablesAt (programOf p) 0 + 32
+main-reserves p fit = ap reserve (nth-function (programOf p) 0 (let a = fit .someFunctions in let b = fit .functionCount in omega arith))
+
+pub start-ready : (p : Package) → Admitted p → (slots : List ℕ) (frames : List FrameRecord) (cells : List Cell) (records : List BlockRecord)
+  → Allowed (programOf p) (record { slots = length slots; frames = length frames; cells = length cells; records = length records })
+  → Ready (programOf p) (begins (programOf p) slots frames (record { cells = cells; used = 0; records = records; count = 0 }))
+start-ready p a slots frames cells records fits =
+    let n = main-reserves p (a .fitting) in
+    begins-ready (programOf p) (a .plans) (a .accepted) slots frames (record { cells = cells; used = 0; records = records; count = 0 }) (a .small) (short-codes p (a .fitting))
+      refl refl (let z = fits .cells in omega arith) (let z = fits .records in omega arith) (let z = fits .main in omega arith) (let z = fits .slots in omega arith)
+      (fits .some) (let z = fits .frames in omega arith)

@@ -1,0 +1,4 @@
+pub mod Safety
+pub mod Staying
+pub mod Beginning
+pub mod Seeing
