@@ -11,7 +11,7 @@ use Rattle.bytecode.specs.Program.{Program}
 use Rattle.host.specs.Hosts.{Host, Lawful}
 use Rattle.reader.specs.View.{programOf, Fitting}
 use Rattle.checked.specs.Runs
-use Rattle.checked.specs.Runs.{Next, goes, Status, live, ended, stopped, Served, served, after, advance, iterate, Answer, heard, ran, tells, over}
+use Rattle.checked.specs.Runs.{Next, goes, Status, live, ended, stopped, Served, served, after, advance, iterate, Answer, response, refusal, ran, tells, over}
 use Rattle.checked.proofs.Running.{Over as IsOver, stays, iterate-add, longer}
 use Rattle.runtime.specs.Runtime.{State, step, runtimeMachine}
 use Rattle.ready.specs.Ready.{Ready}
@@ -22,7 +22,7 @@ use Rattle.machine.specs.declared.Condition.{Condition}
 use Rattle.machine.specs.declared.Outcome
 use Rattle.machine.specs.declared.Outcome.{Outcome}
 use Rattle.machine.specs.declared.Over.{Over}
-use Rattle.machine.specs.View.{programIn, stateOf, statusAs, statusOf, Intact, told, usedOf, overFault, faultIn, refusal}
+use Rattle.machine.specs.View.{programIn, stateOf, statusAs, statusOf, Intact, told, usedOf, overFault, faultIn}
 use Rattle.machine.specs.Runs.{Ran, Going}
 
 -- a refusal shows in the answer
@@ -43,7 +43,7 @@ module _ {S : Type 0} (host : Host S) (first : Machine) (s : S) where
   abbrev steps : State → S → Next State S
   steps = step (programIn first) host
 
-  from-answer : (k : ℕ) (r : Result Outcome Over) (m : Machine) (t : S) → ((n : ℕ) → heard (told r) t ≡ ran (runtimeMachine (programIn first)) host s k (statusOf n first))
+  from-answer : (k : ℕ) (r : Result Outcome Over) (m : Machine) (t : S) → ((n : ℕ) → response (told r) t ≡ ran (runtimeMachine (programIn first)) host s k (statusOf n first))
     → ((n : ℕ) → served (statusOf (n + usedOf r) m) t ≡ iterate steps k (statusOf n first) s) → m .program ≡ first .program → Intact m → Ran host first s k r m t
   from-answer k r m t answer after same intact =
       record { answer = answer; refused = λ n. told-refusal r ∙ ap (λ h. refusal (h .answer)) (answer n); after = after; same = same; intact = intact }
@@ -92,7 +92,7 @@ module _ {S : Type 0} (host : Host S) (first : Machine) (s : S) where
   finished is k a m o t u y r g h answer used status p q =
       from-answer a r o u
         (λ n. sym (ap (ran (runtimeMachine (programIn first)) host s a) (begun n is)
-          ∙ ap (λ x. heard (tells (runtimeMachine {S = S} (programIn first)) n (x .machine)) (x .host)) (h n) ∙ ap (λ x. heard x u) (sym (answer n))))
+          ∙ ap (λ x. response (tells (runtimeMachine {S = S} (programIn first)) n (x .machine)) (x .host)) (h n) ∙ ap (λ x. response x u) (sym (answer n))))
         (λ n. ap (λ x. served x u) (ap (λ j. statusOf (n + j) o) used ∙ status (n + (k + 1))) ∙ sym (ap (λ x. iterate steps a x s) (begun n is) ∙ h n))
         (p ∙ g .same)
         (intact-as m o p q (g .intact))
@@ -101,9 +101,9 @@ module _ {S : Type 0} (host : Host S) (first : Machine) (s : S) where
     → step (programIn m) host (stateOf m) t ≡ Runs.Next.ends w u → o .program ≡ m .program → stateOf o ≡ stateOf m → o .condition ≡ Condition.Ended w
     → Ran host first s a (Ok (Outcome.Ended w (k + 1))) o u
   run-ends is k a w m o t u g lt e p q c =
-      finished is k a m o t u (λ n. ended n w) (Ok (Outcome.Ended w (k + 1))) g
-        (over-next k a m t u (λ n. ended n w) (λ n. tt) g lt (λ n. ap (after (n + k) (stateOf m)) (sym (step-same-program m t (g .same)) ∙ e)))
-        (λ n. ap (Runs.Answer.ends w) (let z : k + 1 ≡ (n + (k + 1)) - n = omega arith in z)) refl (λ n. ap (λ x. statusAs x n (stateOf o)) c) p q
+      finished is k a m o t u (λ n. ended n w (stateOf m)) (Ok (Outcome.Ended w (k + 1))) g
+        (over-next k a m t u (λ n. ended n w (stateOf m)) (λ n. tt) g lt (λ n. ap (after (n + k) (stateOf m)) (sym (step-same-program m t (g .same)) ∙ e)))
+        (λ n. ap (Runs.Answer.ends w) (let z : k + 1 ≡ (n + (k + 1)) - n = omega arith in z)) refl (λ n. ap₂ (λ x y. statusAs x n y) c q) p q
 
   pub run-stops : first .condition ≡ Condition.Live → (k a : ℕ) (b : Stop) (f l : ℕ) (m o : Machine) (t u : S) → Going host first s k m t → k < a
     → step (programIn m) host (stateOf m) t ≡ Runs.Next.stops b u → o .program ≡ m .program → stateOf o ≡ stateOf m → o .condition ≡ Condition.Stopped b
@@ -119,15 +119,15 @@ module _ {S : Type 0} (host : Host S) (first : Machine) (s : S) where
   run-continues is a m t g =
       from-answer a (Ok (Outcome.Continues a)) m t
         (λ n. sym (ap (ran (runtimeMachine (programIn first)) host s a) (begun n is)
-          ∙ ap (λ x. heard (tells (runtimeMachine {S = S} (programIn first)) n (x .machine)) (x .host)) (g .there n)
-          ∙ ap (λ j. heard (Runs.Answer.continues j) t) (let q : (n + a) - n ≡ a = omega arith in q)))
+          ∙ ap (λ x. response (tells (runtimeMachine {S = S} (programIn first)) n (x .machine)) (x .host)) (g .there n)
+          ∙ ap (λ j. response (Runs.Answer.continues j) t) (let q : (n + a) - n ≡ a = omega arith in q)))
         (λ n. ap (λ x. served (statusAs x (n + a) (stateOf m)) t) (g .condition ∙ is) ∙ sym (ap (λ x. iterate steps a x s) (begun n is) ∙ g .there n))
         (g .same)
         (g .intact)
 
   -- a machine that is over is refused, and stays as it is
   pub run-refused : (a : ℕ) (y : ℕ → Status State) → ((n : ℕ) → statusOf n first ≡ y n) → ((n : ℕ) → IsOver (y n))
-    → ((n : ℕ) → ran (runtimeMachine (programIn first)) host s a (y n) ≡ heard over s) → (e : Over) → Intact first → Ran host first s a (Err e) first s
+    → ((n : ℕ) → ran (runtimeMachine (programIn first)) host s a (y n) ≡ response over s) → (e : Over) → Intact first → Ran host first s a (Err e) first s
   run-refused a y status o refuses e i =
       from-answer a (Err e) first s
         (λ n. sym (ap (ran (runtimeMachine (programIn first)) host s a) (status n) ∙ refuses n))

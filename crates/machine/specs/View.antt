@@ -13,13 +13,12 @@ use Rattle.bytecode.specs.Program.{Program}
 use Rattle.heap.specs.declared.Cell.{Cell}
 use Rattle.heap.specs.declared.BlockRecord.{BlockRecord}
 use Rattle.heap.specs.Storage.{Storage}
-use Rattle.reader.specs.declared.package.Package.{Package}
 use Rattle.reader.specs.View.{programOf, Fitting}
 use Rattle.checked.specs.Runs
 use Rattle.checked.specs.Runs.{Status, live, ended, stopped, Answer, continues, ends, stops, over, sees, unseen}
-use Rattle.checked.specs.Law.{Plans, Accepted}
+use Rattle.runtime.specs.declared.FrameRecord.{FrameRecord}
 use Rattle.runtime.specs.Runtime.{State}
-use Rattle.runtime.specs.Relation.{Small}
+use Rattle.runtime.specs.Law.{Memory}
 use Rattle.ready.specs.Ready.{Ready}
 use Rattle.execution.specs.declared.FrameView.{FrameView}
 use Rattle.execution.specs.View as execution
@@ -43,22 +42,19 @@ stateOf m = execution.stateOf (m .execution)
 
 abbrev pub statusAs : Condition → ℕ → State → Status State
 statusAs Condition.Live n l = live n l
-statusAs (Condition.Ended w) n l = ended n w
+statusAs (Condition.Ended w) n l = ended n w l
 statusAs (Condition.Stopped e) n l = stopped n e l
 
 -- the machine between calls, after n steps
 abbrev pub statusOf : ℕ → Machine → Status State
 statusOf n m = statusAs (m .condition) n (stateOf m)
 
--- ## What is known of it
+-- memory as it is lent to a machine, none of it in use
+abbrev pub lent : List ℕ → List FrameRecord → List Cell → List BlockRecord → Memory
+lent slots frames cells records =
+    record { slots = slots; frames = frames; storage = record { cells = cells; used = 0; records = records; count = 0 } }
 
--- what start asks of a program, and check's answer promises: its package was read, every function has its fullest plan, and its
--- integers and strings fit
-pub record Admitted (p : Package) : Type 0 where
-  pub fitting : Fitting p
-  pub plans : Plans
-  pub accepted : Accepted (programOf p) plans
-  pub small : Small (programOf p)
+-- ## What is known of it
 
 -- what every call on a machine asks for and gives back
 pub record Intact (m : Machine) : Type 0 where
@@ -99,13 +95,3 @@ noFrameFault e = (33, 0, 0)
 abbrev pub faultIn : {A E : Type 0} → (E → Fault) → Result A E → Option Fault
 faultIn f (Ok a) = None
 faultIn f (Err e) = Some (f e)
-
--- the refusal that an answer is, if it is one
-abbrev pub refusal : Answer → Option Fault
-refusal (continues k) = None
-refusal (ends w k) = None
-refusal (stops e f p k) = None
-refusal (Runs.breaks k) = None
-refusal over = Some (32, 0, 0)
-refusal (sees v) = None
-refusal unseen = Some (33, 0, 0)

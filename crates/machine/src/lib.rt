@@ -4,6 +4,7 @@ mod run;
 pub mod sizes;
 mod start;
 mod step;
+pub mod stops;
 
 use bytecode::stop::Stop;
 use execution::Execution;

@@ -1,15 +1,15 @@
 // Runs, and looks at frames.
 ghost use mathlib.Core.Path.{_≡_};
 ghost use Prim.Native.Nat.{ℕ};
-ghost use Rattle.checked.specs.Runs.{looked};
+ghost use Rattle.checked.specs.Runs.{refusal, looked};
 ghost use Rattle.runtime.specs.Runtime.{runtimeMachine};
 ghost use Rattle.machine.specs.declared.Condition.the-variants.{Live};
-ghost use Rattle.machine.specs.View.{programIn, statusOf, Intact, saw, noFrameFault, faultIn, refusal};
+ghost use Rattle.machine.specs.View.{programIn, statusOf, Intact, saw, noFrameFault, faultIn};
 ghost use Rattle.machine.specs.Runs.{Ran};
 
 use execution::Flow;
 use execution::FrameView;
-use host::host::Host;
+use host::Host;
 
 use crate::Condition;
 use crate::Machine;

@@ -1,42 +1,48 @@
 // The start and the end of a machine.
 ghost use mathlib.Core.Path.{_≡_};
 ghost use mathlib.Core.Bool.{true};
+ghost use mathlib.Core.List.{List};
+ghost use Prim.Native.Nat.{ℕ, _<_};
 ghost use lib.ListN.{length};
-ghost use Rattle.reader.specs.View.{programOf};
-ghost use Rattle.runtime.specs.Runtime.{begins};
-ghost use Rattle.machine.specs.declared.Condition.the-variants.{Live};
-ghost use Rattle.machine.specs.View.{stateOf, Admitted, Intact};
+ghost use Rattle.host.specs.Hosts.{Call};
+ghost use Rattle.plan.specs.Plans.{Fullest};
+ghost use Rattle.checked.specs.Law.{Plans};
+ghost use Rattle.runtime.specs.Law.{sizesOf, begun, Law};
+ghost use Rattle.verifier.specs.Checking.{Checked, meaningOf};
+ghost use Rattle.machine.specs.View.{stateOf, statusOf, lent, Intact};
 ghost use Rattle.machine.specs.Sizes.{sizesAllowed};
 
 use execution::Execution;
 use execution::Lent;
 use heap::BlockRecord;
 use heap::Cell;
-use reader::package::Package;
 use runtime::FrameRecord;
+use verifier::program::Program;
 
 use crate::Condition;
 use crate::Machine;
 
 impl<'a> Machine<'a> {
-    /// Starts an accepted program over memory of sizes that were allowed. It cannot refuse.
+    /// Starts an accepted program over memory of sizes that were allowed. It cannot refuse. What the machine is owed from here on, over
+    /// every list of runs and looks, is the law.
     pub fn start(
-        program: Package<'a>,
+        program: Program<'a>,
         slots: &'a mut [u64],
         frames: &'a mut [FrameRecord],
         cells: &'a mut [Cell],
         records: &'a mut [BlockRecord],
     ) -> Machine<'a>
-        requires admitted { ⌜ Admitted program ⌝ }
-        requires allowed { ⌜ sizesAllowed (programOf program) (record { slots = length (now slots); frames = length (now frames); cells = length (now cells); records = length (now records) }) ≡ true ⌝ }
-        ensures state { λ r. ⌜ stateOf r ≡ begins (programOf (program .entry)) (now (slots .entry)) (now (frames .entry)) (record { cells = now (cells .entry); used = 0; records = now (records .entry); count = 0 }) ⌝ }
-        ensures live { λ r. ⌜ r .condition ≡ Live ⌝ }
-        ensures program { λ r. ⌜ r .program ≡ program .entry ⌝ }
+        requires checked { ⌜ Checked program ⌝ }
+        requires allowed { ⌜ sizesAllowed (meaningOf program) (sizesOf (lent (now slots) (now frames) (now cells) (now records))) ≡ true ⌝ }
+        ensures begun { λ r. ⌜ statusOf 0 r ≡ begun (meaningOf (program .entry)) (lent (now (slots .entry)) (now (frames .entry)) (now (cells .entry)) (now (records .entry))) ⌝ }
+        ensures program { λ r. ⌜ r .program ≡ program .entry .contents ⌝ }
         ensures intact { λ r. ⌜ Intact r ⌝ }
+        ensures law { λ _. ⌜ ((plans : Plans) → ((f : ℕ) → f < length (meaningOf (program .entry) .functions) → Fullest (meaningOf (program .entry)) f (plans f)) → Law (List Call) (meaningOf (program .entry)) plans (lent (now (slots .entry)) (now (frames .entry)) (now (cells .entry)) (now (records .entry)))) ⌝ }
     {
-        let variables = program.variables(0);
+        let contents = *program.contents();
+        let variables = contents.variables(0);
         Machine {
-            program,
+            program: contents,
             execution: Execution::new(variables, slots, frames, cells, records),
             condition: Condition::Live,
         }

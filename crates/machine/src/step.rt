@@ -13,7 +13,7 @@ use bytecode::stop::Stop;
 use execution::Execution;
 use execution::Flow;
 use host::call::Reply;
-use host::host::Host;
+use host::Host;
 use natives::agrees;
 use natives::call;
 use natives::reference;

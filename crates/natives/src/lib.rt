@@ -15,7 +15,7 @@ use host::call::Argument;
 use host::call::Call;
 use host::call::Reply;
 use host::call::Signature;
-use host::host::Host;
+use host::Host;
 use host::text::Text;
 use host::text::find_text;
 use host::text::no_text;
