@@ -59,7 +59,7 @@ fn requests_of(heap: Global, words: Args) -> Option<Vec<Request>> {
 }
 
 /// What the arguments ask for, if they are well formed. The first is the name of the program.
-pub fn asked(heap: Global, mut words: Args) -> Option<Asked> {
+pub fn read_arguments(heap: Global, mut words: Args) -> Option<Asked> {
     let _ = words.next()?;
     let slots = number(&mut words)?;
     let frames = number(&mut words)?;

@@ -4,11 +4,13 @@ ghost use Rattle.verifier.specs.Checking.{Checked};
 use arguments::Asked;
 use arguments::Chosen;
 use arguments::USAGE;
-use arguments::asked;
+use arguments::read_arguments;
 use heap::BlockRecord;
 use heap::Cell;
 use host::drive::Drive;
+use host::drive::DriveHost;
 use host::line::Line;
+use host::line::LineHost;
 use machine::Machine;
 use machine::sizes::allows;
 use play::play;
@@ -85,7 +87,7 @@ fn start(rt: &LibcRuntime, program: Program<'_>, asked: &Asked) -> io::Result<()
 }
 
 fn main(rt: LibcRuntime) -> io::Result<()> {
-    let Some(asked) = asked(rt.alloc(), env::args(&rt)?) else {
+    let Some(asked) = read_arguments(rt.alloc(), env::args(&rt)?) else {
         eprintln!(rt, "{USAGE}")?;
         return Err(io::Error::from(io::ErrorKind::InvalidInput));
     };

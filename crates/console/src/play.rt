@@ -20,21 +20,29 @@ fn show(rt: &LibcRuntime, outcome: Outcome) -> io::Result<()> {
     }
 }
 
+// Makes a call.
+fn answer<H: Host>(rt: &LibcRuntime, machine: &mut Machine<'_, '_>, host: &mut H, request: Request) -> io::Result<()>
+    requires { ⌜ Intact (now machine) ⌝ }
+    ensures { λ _. ⌜ Intact (now (machine .exit)) ⌝ }
+{
+    match request {
+        Request::Run(allowance) => match machine.run(host, allowance) {
+            Ok(outcome) => show(rt, outcome),
+            Err(_) => println!(rt, "refused 32 0 0"),
+        },
+        Request::Look(frame) => match machine.look(frame) {
+            Ok(view) => println!(rt, "frame {} {} {}", view.function, view.place, view.depth),
+            Err(_) => println!(rt, "refused 33 0 0"),
+        },
+    }
+}
+
 /// Makes the calls in their order.
-pub fn play<H: Host>(rt: &LibcRuntime, machine: &mut Machine<'_>, host: &mut H, requests: &[Request]) -> io::Result<()>
+pub fn play<H: Host>(rt: &LibcRuntime, machine: &mut Machine<'_, '_>, host: &mut H, requests: &[Request]) -> io::Result<()>
     requires { ⌜ Intact (now machine) ⌝ }
 {
     for request in requests {
-        match *request {
-            Request::Run(allowance) => match machine.run(host, allowance) {
-                Ok(outcome) => show(rt, outcome)?,
-                Err(_) => println!(rt, "refused 32 0 0")?,
-            },
-            Request::Look(frame) => match machine.look(frame) {
-                Ok(view) => println!(rt, "frame {} {} {}", view.function, view.place, view.depth)?,
-                Err(_) => println!(rt, "refused 33 0 0")?,
-            },
-        }
+        answer(rt, machine, host, *request)?;
     }
     Ok(())
 }

@@ -12,9 +12,9 @@ use reader::package::Package;
 
 /// An accepted program and where its execution is, over lent memory. It lives, or it is over: ended or stopped.
 #[derive(Drop)]
-pub struct Machine<'a> {
-    program: Package<'a>,
-    execution: Execution<'a>,
+pub struct Machine<'p, 'm> {
+    program: Package<'p>,
+    execution: Execution<'m>,
     condition: Condition,
 }
 

@@ -18,7 +18,7 @@ use crate::Outcome;
 use crate::Over;
 use crate::step::step;
 
-impl<'a> Machine<'a> {
+impl<'p, 'm> Machine<'p, 'm> {
     // The steps of a run on a living machine.
     fn go<H: Host>(&mut self, host: &mut H, allowance: u32) -> Result<Outcome, Over>
         requires live { ⌜ now self .condition ≡ Live ⌝ }

@@ -22,16 +22,16 @@ use verifier::program::Program;
 use crate::Condition;
 use crate::Machine;
 
-impl<'a> Machine<'a> {
+impl<'p, 'm> Machine<'p, 'm> {
     /// Starts an accepted program over memory of sizes that were allowed. It cannot refuse. What the machine is owed from here on, over
     /// every list of runs and looks, is the law.
     pub fn start(
-        program: Program<'a>,
-        slots: &'a mut [u64],
-        frames: &'a mut [FrameRecord],
-        cells: &'a mut [Cell],
-        records: &'a mut [BlockRecord],
-    ) -> Machine<'a>
+        program: Program<'p>,
+        slots: &'m mut [u64],
+        frames: &'m mut [FrameRecord],
+        cells: &'m mut [Cell],
+        records: &'m mut [BlockRecord],
+    ) -> Machine<'p, 'm>
         requires checked { ⌜ Checked program ⌝ }
         requires allowed { ⌜ sizesAllowed (meaningOf program) (sizesOf (lent (now slots) (now frames) (now cells) (now records))) ≡ true ⌝ }
         ensures begun { λ r. ⌜ statusOf 0 r ≡ begun (meaningOf (program .entry)) (lent (now (slots .entry)) (now (frames .entry)) (now (cells .entry)) (now (records .entry))) ⌝ }
@@ -49,7 +49,7 @@ impl<'a> Machine<'a> {
     }
 
     /// Takes a machine apart: it runs no more. Answers the lent memory, as the machine leaves it.
-    pub fn end(self) -> Lent<'a>
+    pub fn end(self) -> Lent<'m>
         ensures slots { λ r. ⌜ now (r .slots) ≡ stateOf (self .entry) .slots ⌝ }
         ensures frames { λ r. ⌜ now (r .frames) ≡ stateOf (self .entry) .frames ⌝ }
         ensures cells { λ r. ⌜ now (r .cells) ≡ stateOf (self .entry) .storage .cells ⌝ }
