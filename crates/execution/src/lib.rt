@@ -1,7 +1,7 @@
 // A program's execution over lent memory: its frames, their slots and the blocks; and every instruction but the call of a native.
 ghost use mathlib.Core.Path.{_≡_};
-ghost use Prim.Native.Nat.{ℕ, _+_, _^_, _<_, _≤_};
-ghost use lib.ListN.{length};
+ghost use Prim.Native.Nat.{ℕ, _+_, _-_, _^_, _<_, _≤_};
+ghost use lib.ListN.{length, take, drop};
 ghost use Rattle.execution.specs.View.{stateOf, beginning};
 
 mod blocks;
@@ -84,6 +84,37 @@ impl<'a> Execution<'a> {
             reserved: reserve(variables),
             memory,
         }
+    }
+
+    /// The newest frame's function.
+    pub fn function(&self) -> usize
+        ensures { λ r. ⌜ r ≡ stateOf (now (self .entry)) .function ⌝ }
+    {
+        self.function
+    }
+
+    /// The newest frame's place.
+    pub fn place(&self) -> usize
+        ensures { λ r. ⌜ r ≡ stateOf (now (self .entry)) .place ⌝ }
+    {
+        self.place
+    }
+
+    /// How many slots are in use.
+    pub fn top(&mut self) -> usize
+        ensures value { λ r. ⌜ r ≡ stateOf (now (self .entry)) .top ⌝ }
+        ensures same { λ _. ⌜ now (self .exit) ≡ now (self .entry) ⌝ }
+    {
+        self.slots.len()
+    }
+
+    /// The slots from one up to another.
+    pub fn part(&self, from: usize, to: usize) -> &[u64]
+        requires ordered { ⌜ from ≤ to ⌝ }
+        requires there { ⌜ to ≤ length (stateOf (now self) .slots) ⌝ }
+        ensures { λ r. ⌜ now r ≡ take (to - from) (drop from (stateOf (now (self .entry)) .slots)) ⌝ }
+    {
+        self.slots.part(from, to)
     }
 
     /// Takes an execution apart: the lent memory, as it leaves it.
