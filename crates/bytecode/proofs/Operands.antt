@@ -83,11 +83,11 @@ module _ (b c d e : ℕ) (i : Instruction) (second : 2 ≤ sizeOf i → d ≡ b)
 
 -- whatever a code's instruction is, its bytes make it, with any others behind the code
 pub decoded-bytes : (code : List ℕ) (p x y z : ℕ) (i : Instruction) → decodeAt code p ≡ Some i → x ≡ byteAt code p
-  → (p + 1 + 1 ≤ length code → y ≡ byteAt code (p + 1)) → (p + 2 + 1 ≤ length code → z ≡ byteAt code (p + 2)) → instructionOf x y z ≡ Some i
+    → (p + 1 + 1 ≤ length code → y ≡ byteAt code (p + 1)) → (p + 2 + 1 ≤ length code → z ≡ byteAt code (p + 2)) → instructionOf x y z ≡ Some i
 decoded-bytes code p x y z i h here next last = pick (instructionOf (byteAt code p) (byteAt code (p + 1)) (byteAt code (p + 2))) refl h
   where
     found : (j : Instruction) (t : Bool) → leb (p + sizeOf j) (length code) ≡ t → instructionOf (byteAt code p) (byteAt code (p + 1)) (byteAt code (p + 2)) ≡ Some j
-      → cond t (Some j) None ≡ Some i → instructionOf x y z ≡ Some i
+        → cond t (Some j) None ≡ Some i → instructionOf x y z ≡ Some i
     found j false q e h = absurd (let n : _≡_ {A = ℕ} 0 1 = cc in let b : ⊥ = omega arith in b)
     found j true q e h =
         let k : j ≡ i = cc in
@@ -95,6 +95,7 @@ decoded-bytes code p x y z i h here next last = pick (instructionOf (byteAt code
         let n = leb-true (p + sizeOf j) (length code) q in
         ap (λ o. instructionOf o y z) here
         ∙ same-instruction (byteAt code (p + 1)) (byteAt code (p + 2)) y z i (λ s. next (omega arith)) (λ s. last (omega arith)) (byteAt code p) (e ∙ ap Some k)
+
     pick : (o : Option Instruction) → instructionOf (byteAt code p) (byteAt code (p + 1)) (byteAt code (p + 2)) ≡ o → whole code p o ≡ Some i → instructionOf x y z ≡ Some i
     pick None e h = absurd (let n : _≡_ {A = ℕ} 0 1 = cc in let b : ⊥ = omega arith in b)
     pick (Some j) e h = found j (leb (p + sizeOf j) (length code)) refl e h

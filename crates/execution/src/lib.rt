@@ -11,14 +11,13 @@ mod execute;
 mod look;
 mod values;
 
+use crate::calls::reserve;
 use bytecode::stop::Stop;
 use cells::memory::Memory;
 use heap::BlockRecord;
 use heap::Cell;
 use runtime::FrameRecord;
 use stack::Stack;
-
-use crate::calls::reserve;
 
 /// Where a program is, and what it has. The newest frame's variables lie in the slots from `base` on, and its operand stack
 /// behind them, up to the top of `slots`. The calling frames have records. `reserved` counts the slots that all frames reserve.
@@ -133,7 +132,12 @@ impl<'a> Execution<'a> {
             reserved: _,
             memory,
         } = self;
-        let Memory { cells, used: _, records, count: _ } = memory;
+        let Memory {
+            cells,
+            used: _,
+            records,
+            count: _,
+        } = memory;
         Lent {
             slots: slots.end(),
             frames: frames.end(),

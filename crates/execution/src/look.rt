@@ -8,11 +8,9 @@ ghost use Rattle.reader.specs.View.{programOf, Fitting};
 ghost use Rattle.runtime.specs.Runtime.{viewOf as shownOf, frameAt, endOf};
 ghost use Rattle.ready.specs.Ready.{Framed};
 ghost use Rattle.execution.specs.View.{stateOf, viewIn};
-
-use reader::package::Package;
-
 use crate::Execution;
 use crate::FrameView;
+use reader::package::Package;
 
 // A frame of a function at a place, whose slots go from `base` up to `top`.
 fn view(program: &Package<'_>, function: usize, place: usize, base: usize, top: usize) -> FrameView

@@ -41,13 +41,14 @@ allowed-sizes P sizes e =
     let c = and-parts (leb (sizes .frames) 64) _ (b .1) in
     let d = and-parts (leb (sizes .cells) 4096) _ (c .1) in
     let f = and-parts (leb (sizes .records) 1024) (leb (reserve (nth (P .functions) 0)) (sizes .slots)) (d .1) in
-    record
-      { slots = leb-true (sizes .slots) 8192 (a .0)
-      ; some = let z = ltb-true 0 (sizes .frames) (b .0) in omega arith
-      ; frames = leb-true (sizes .frames) 64 (c .0)
-      ; cells = leb-true (sizes .cells) 4096 (d .0)
-      ; records = leb-true (sizes .records) 1024 (f .0)
-      ; main = leb-true (reserve (nth (P .functions) 0)) (sizes .slots) (f .1) }
+    record {
+      slots = leb-true (sizes .slots) 8192 (a .0);
+      some = let z = ltb-true 0 (sizes .frames) (b .0) in omega arith;
+      frames = leb-true (sizes .frames) 64 (c .0);
+      cells = leb-true (sizes .cells) 4096 (d .0);
+      records = leb-true (sizes .records) 1024 (f .0);
+      main = leb-true (reserve (nth (P .functions) 0)) (sizes .slots) (f .1);
+    }
 
 pub sizes-allowed : (P : Program) (sizes : Sizes) → Allowed P sizes → sizesAllowed P sizes ≡ true
 sizes-allowed P sizes a =
@@ -72,10 +73,10 @@ pub main-reserves : (p : Package) → Fitting p → reserve (nth (programOf p .f
 main-reserves p fit = ap reserve (nth-function (programOf p) 0 (let a = fit .someFunctions in let b = fit .functionCount in omega arith))
 
 pub start-ready : (p : Package) → Admitted p → (slots : List ℕ) (frames : List FrameRecord) (cells : List Cell) (records : List BlockRecord)
-  → Allowed (programOf p) (record { slots = length slots; frames = length frames; cells = length cells; records = length records })
-  → Ready (programOf p) (begins (programOf p) slots frames (record { cells = cells; used = 0; records = records; count = 0 }))
+    → Allowed (programOf p) (record { slots = length slots; frames = length frames; cells = length cells; records = length records })
+    → Ready (programOf p) (begins (programOf p) slots frames (record { cells = cells; used = 0; records = records; count = 0 }))
 start-ready p a slots frames cells records fits =
     let n = main-reserves p (a .fitting) in
     begins-ready (programOf p) (a .plans) (a .accepted) slots frames (record { cells = cells; used = 0; records = records; count = 0 }) (a .small) (short-codes p (a .fitting))
-      refl refl (let z = fits .cells in omega arith) (let z = fits .records in omega arith) (let z = fits .main in omega arith) (let z = fits .slots in omega arith)
-      (fits .some) (let z = fits .frames in omega arith)
+    refl refl (let z = fits .cells in omega arith) (let z = fits .records in omega arith) (let z = fits .main in omega arith) (let z = fits .slots in omega arith)
+    (fits .some) (let z = fits .frames in omega arith)

@@ -8,7 +8,6 @@ ghost use Rattle.std.specs.declared.option.Option.the-variants.{Some};
 ghost use Rattle.bytecode.specs.Instructions.{decodeAt};
 ghost use Rattle.plan.specs.Programs.{functionAt};
 ghost use Rattle.reader.specs.View.{programOf, Fitting};
-
 use bytecode::instruction::Instruction;
 use bytecode::instruction::instruction_of;
 use reader::package::Package;

@@ -6,11 +6,9 @@ ghost use Rattle.std.specs.declared.option.Option.the-variants.{Some, None};
 ghost use Rattle.reader.specs.View.{programOf, Fitting};
 ghost use Rattle.machine.specs.View.{sizesFault, faultIn};
 ghost use Rattle.machine.specs.Sizes.{sizesAllowed};
-
+use crate::SizesRefused;
 use execution::calls::reserve;
 use reader::package::Package;
-
-use crate::SizesRefused;
 
 const SLOT_LIMIT: usize = 8192;
 
@@ -21,11 +19,22 @@ const CELL_LIMIT: usize = 4096;
 const RECORD_LIMIT: usize = 1024;
 
 /// Whether a program may be started with so many slots, frames, cells and block records.
-pub fn allows(program: &Package<'_>, slots: usize, frames: usize, cells: usize, records: usize) -> Result<(), SizesRefused>
+pub fn allows(
+    program: &Package<'_>,
+    slots: usize,
+    frames: usize,
+    cells: usize,
+    records: usize,
+) -> Result<(), SizesRefused>
     requires { ⌜ Fitting (now program) ⌝ }
     ensures { λ r. ⌜ faultIn sizesFault r ≡ cond (sizesAllowed (programOf (now (program .entry))) (record { slots = slots; frames = frames; cells = cells; records = records })) None (Some (30, 0, 0)) ⌝ }
 {
-    if slots > SLOT_LIMIT || frames == 0 || frames > FRAME_LIMIT || cells > CELL_LIMIT || records > RECORD_LIMIT {
+    if slots > SLOT_LIMIT
+        || frames == 0
+        || frames > FRAME_LIMIT
+        || cells > CELL_LIMIT
+        || records > RECORD_LIMIT
+    {
         return Err(SizesRefused);
     }
     if reserve(program.variables(0)) > slots {

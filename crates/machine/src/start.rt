@@ -7,16 +7,14 @@ ghost use Rattle.runtime.specs.Runtime.{begins};
 ghost use Rattle.machine.specs.declared.Condition.the-variants.{Live};
 ghost use Rattle.machine.specs.View.{stateOf, Admitted, Intact};
 ghost use Rattle.machine.specs.Sizes.{sizesAllowed};
-
+use crate::Condition;
+use crate::Machine;
 use execution::Execution;
 use execution::Lent;
 use heap::BlockRecord;
 use heap::Cell;
 use reader::package::Package;
 use runtime::FrameRecord;
-
-use crate::Condition;
-use crate::Machine;
 
 impl<'a> Machine<'a> {
     /// Starts an accepted program over memory of sizes that were allowed. It cannot refuse.

@@ -33,11 +33,13 @@ returns c =
     let records = now (c .args .records) in
     let fits = allowed-sizes (programOf p) (record { slots = length slots; frames = length frames; cells = length cells; records = length records }) (c .pre .allowed) in
     let e : stateOf (c .new .result) ≡ begins (programOf p) slots frames (record { cells = cells; used = 0; records = records; count = 0 }) =
-      c .new .ensures ∙ ap (λ v. beginning v slots frames cells records) (c .variables-variables .ensures .met) in
+    c .new .ensures ∙ ap (λ v. beginning v slots frames cells records) (c .variables-variables .ensures .met) in
     record {
       state = e;
       live = refl;
       program = refl;
       intact = record {
         fitting = c .pre .admitted .fitting;
-        ready = subst (Ready (programOf p)) (sym e) (start-ready p (c .pre .admitted) slots frames cells records fits) } }
+        ready = subst (Ready (programOf p)) (sym e) (start-ready p (c .pre .admitted) slots frames cells records fits);
+      };
+    }
