@@ -63,8 +63,8 @@ pub enum Instruction {
     Amstore,
 }
 
-// The instruction that an opcode and the two bytes after it make; most use none or one of them.
-fn instruction_of(op: u8, first: u8, second: u8) -> Option<Instruction>
+/// The instruction that an opcode and the two bytes after it make; most use none or one of them.
+pub fn instruction_of(op: u8, first: u8, second: u8) -> Option<Instruction>
     ensures { λ r. ⌜ r ≡ instructionOf op first second ⌝ }
 {
     let wide = first as u16 * 256 + second as u16;

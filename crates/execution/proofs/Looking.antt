@@ -24,12 +24,12 @@ caller-is : (l : State) (n : ℕ) → 0 < n → getD (l .frames) (l .callers - n
 caller-is l n some = ap (λ i. getD (l .frames) i noFrame) (let e : l .callers - n ≡ l .callers - suc (n - 1) = omega arith in e)
 
 pub caller-inside : (P : Program) (l : State) (n end : ℕ) (k : FrameRecord) → Framed P l → 0 < n → n ≤ l .callers
-  → k ≡ getD (l .frames) (l .callers - n) noFrame → end ≡ endOf l (n - 1) → FrameInside P (k .function) (k .base) end
+    → k ≡ getD (l .frames) (l .callers - n) noFrame → end ≡ endOf l (n - 1) → FrameInside P (k .function) (k .base) end
 caller-inside P l n end k framed some lt e q =
     subst₂ (λ r u. FrameInside P (r .function) (r .base) u) (sym (e ∙ caller-is l n some)) (sym q) (framed .callers (n - 1) (omega arith))
 
 pub caller-shown : (P : Program) (l : State) (n end : ℕ) (k : FrameRecord) → 0 < n → n ≤ l .callers
-  → k ≡ getD (l .frames) (l .callers - n) noFrame → end ≡ endOf l (n - 1) → Some (viewOf P (k .function) (k .place) (k .base) end) ≡ frameAt P l n
+    → k ≡ getD (l .frames) (l .callers - n) noFrame → end ≡ endOf l (n - 1) → Some (viewOf P (k .function) (k .place) (k .base) end) ≡ frameAt P l n
 caller-shown P l zero end k some lt e q = absurd (let b : ⊥ = omega arith in b)
 caller-shown P l (suc j) end k some lt e q =
     let i : suc j - 1 ≡ j = omega arith in

@@ -18,14 +18,32 @@ use Rattle.execution.specs.declared.Flow.the-variants.{Goes, Ends, Stops}
 
 abbrev pub stateOf : Execution → State
 stateOf e =
-    record { function = e .function; place = e .place; base = e .base; slots = entries (e .slots); top = e .slots .len;
-      frames = entries (e .frames); callers = e .frames .len; reserved = e .reserved; storage = storageOf (e .memory) }
+    record {
+      function = e .function;
+      place = e .place;
+      base = e .base;
+      slots = entries (e .slots);
+      top = e .slots .len;
+      frames = entries (e .frames);
+      callers = e .frames .len;
+      reserved = e .reserved;
+      storage = storageOf (e .memory);
+    }
 
 -- main's frame alone, with so many variables, over this memory, and no block
 abbrev pub beginning : ℕ → List ℕ → List FrameRecord → List Cell → List BlockRecord → State
 beginning variables slots frames cells records =
-    record { function = 0; place = 0; base = 0; slots = slots; top = variables; frames = frames; callers = 0; reserved = variables + 32;
-      storage = record { cells = cells; used = 0; records = records; count = 0 } }
+    record {
+      function = 0;
+      place = 0;
+      base = 0;
+      slots = slots;
+      top = variables;
+      frames = frames;
+      callers = 0;
+      reserved = variables + 32;
+      storage = record { cells = cells; used = 0; records = records; count = 0 };
+    }
 
 abbrev pub viewIn : FrameView → View
 viewIn v = record { function = v .function; place = v .place; depth = v .depth }

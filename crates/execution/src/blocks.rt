@@ -7,12 +7,10 @@ ghost use Rattle.cells.specs.View.{attemptOf};
 ghost use Rattle.runtime.specs.Runtime.{slot as slotIn, wordIn, moved, pushed, with-storage, tried, went};
 ghost use Rattle.ready.specs.Ready.{Bounds, Room, KnownIn};
 ghost use Rattle.execution.specs.View.{stateOf, comes, Still};
-
-use bytecode::stop::Stop;
-
 use crate::Execution;
 use crate::Flow;
 use crate::values::word;
+use bytecode::stop::Stop;
 
 impl<'a> Execution<'a> {
     // The number of the reference in a slot.

@@ -8,14 +8,12 @@ ghost use Rattle.word.specs.Words.{holds as compared};
 ghost use Rattle.runtime.specs.Runtime.{slot as slotIn, wordIn, branched, jumped};
 ghost use Rattle.ready.specs.Ready.{Bounds, Lands};
 ghost use Rattle.execution.specs.View.{stateOf, comes, Still};
-
-use bytecode::instruction::Order;
-use bytecode::instruction::target;
-use word::holds;
-
 use crate::Execution;
 use crate::Flow;
 use crate::values::word;
+use bytecode::instruction::Order;
+use bytecode::instruction::target;
+use word::holds;
 
 impl<'a> Execution<'a> {
     // Whether the two values on top are the same.

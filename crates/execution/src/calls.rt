@@ -10,14 +10,12 @@ ghost use Rattle.plan.specs.Programs.{nth, functionAt};
 ghost use Rattle.reader.specs.View.{programOf, Fitting};
 ghost use Rattle.ready.specs.Ready.{Bounds, Safe};
 ghost use Rattle.execution.specs.View.{stateOf, comes, Still};
-
-use bytecode::stop::Stop;
-use reader::package::Package;
-use runtime::FrameRecord;
-
 use crate::Execution;
 use crate::Flow;
 use crate::values::word;
+use bytecode::stop::Stop;
+use reader::package::Package;
+use runtime::FrameRecord;
 
 /// The entries of its operand stack that each frame reserves, besides its variables.
 const STACK: usize = 32;

@@ -4,13 +4,11 @@ ghost use Rattle.reader.specs.View.{programOf, Fitting};
 ghost use Rattle.runtime.specs.Runtime.{exec};
 ghost use Rattle.ready.specs.Ready.{Bounds, Safe};
 ghost use Rattle.execution.specs.View.{stateOf, comes, Still, Plain};
-
+use crate::Execution;
+use crate::Flow;
 use bytecode::instruction::Instruction;
 use reader::package::Package;
 use word::sign_extend;
-
-use crate::Execution;
-use crate::Flow;
 
 impl<'a> Execution<'a> {
     /// Executes an instruction of the program, other than the call of a native, to go on at the next place.

@@ -1,7 +1,7 @@
 // A program's execution over lent memory: its frames, their slots and the blocks; and every instruction but the call of a native.
 ghost use mathlib.Core.Path.{_≡_};
-ghost use Prim.Native.Nat.{ℕ, _+_, _^_, _<_, _≤_};
-ghost use lib.ListN.{length};
+ghost use Prim.Native.Nat.{ℕ, _+_, _-_, _^_, _<_, _≤_};
+ghost use lib.ListN.{length, take, drop};
 ghost use Rattle.execution.specs.View.{stateOf, beginning};
 
 mod blocks;
@@ -11,14 +11,13 @@ mod execute;
 mod look;
 mod values;
 
+use crate::calls::reserve;
 use bytecode::stop::Stop;
 use cells::memory::Memory;
 use heap::BlockRecord;
 use heap::Cell;
 use runtime::FrameRecord;
 use stack::Stack;
-
-use crate::calls::reserve;
 
 /// Where a program is, and what it has. The newest frame's variables lie in the slots from `base` on, and its operand stack
 /// behind them, up to the top of `slots`. The calling frames have records. `reserved` counts the slots that all frames reserve.
@@ -86,6 +85,37 @@ impl<'a> Execution<'a> {
         }
     }
 
+    /// The newest frame's function.
+    pub fn function(&self) -> usize
+        ensures { λ r. ⌜ r ≡ stateOf (now (self .entry)) .function ⌝ }
+    {
+        self.function
+    }
+
+    /// The newest frame's place.
+    pub fn place(&self) -> usize
+        ensures { λ r. ⌜ r ≡ stateOf (now (self .entry)) .place ⌝ }
+    {
+        self.place
+    }
+
+    /// How many slots are in use.
+    pub fn top(&mut self) -> usize
+        ensures value { λ r. ⌜ r ≡ stateOf (now (self .entry)) .top ⌝ }
+        ensures same { λ _. ⌜ now (self .exit) ≡ now (self .entry) ⌝ }
+    {
+        self.slots.len()
+    }
+
+    /// The slots from one up to another.
+    pub fn part(&self, from: usize, to: usize) -> &[u64]
+        requires ordered { ⌜ from ≤ to ⌝ }
+        requires there { ⌜ to ≤ length (stateOf (now self) .slots) ⌝ }
+        ensures { λ r. ⌜ now r ≡ take (to - from) (drop from (stateOf (now (self .entry)) .slots)) ⌝ }
+    {
+        self.slots.part(from, to)
+    }
+
     /// Takes an execution apart: the lent memory, as it leaves it.
     pub fn end(self) -> Lent<'a>
         ensures slots { λ r. ⌜ now (r .slots) ≡ stateOf (self .entry) .slots ⌝ }
@@ -102,7 +132,12 @@ impl<'a> Execution<'a> {
             reserved: _,
             memory,
         } = self;
-        let Memory { cells, used: _, records, count: _ } = memory;
+        let Memory {
+            cells,
+            used: _,
+            records,
+            count: _,
+        } = memory;
         Lent {
             slots: slots.end(),
             frames: frames.end(),

@@ -1,18 +1,16 @@
 // What can be seen of an execution. Nothing changes.
 ghost use mathlib.Core.Path.{_≡_};
-ghost use Prim.Native.Nat.{ℕ, _+_, _-_, _<_, _≤_};
-ghost use lib.ListN.{length, take, drop};
+ghost use Prim.Native.Nat.{ℕ, _+_, _<_, _≤_};
+ghost use lib.ListN.{length};
 ghost use Rattle.std.specs.Options.{mapped};
 ghost use Rattle.plan.specs.Programs.{variablesAt};
 ghost use Rattle.reader.specs.View.{programOf, Fitting};
 ghost use Rattle.runtime.specs.Runtime.{viewOf as shownOf, frameAt, endOf};
 ghost use Rattle.ready.specs.Ready.{Framed};
 ghost use Rattle.execution.specs.View.{stateOf, viewIn};
-
-use reader::package::Package;
-
 use crate::Execution;
 use crate::FrameView;
+use reader::package::Package;
 
 // A frame of a function at a place, whose slots go from `base` up to `top`.
 fn view(program: &Package<'_>, function: usize, place: usize, base: usize, top: usize) -> FrameView
@@ -30,37 +28,6 @@ fn view(program: &Package<'_>, function: usize, place: usize, base: usize, top: 
 }
 
 impl<'a> Execution<'a> {
-    /// The newest frame's function.
-    pub fn function(&self) -> usize
-        ensures { λ r. ⌜ r ≡ stateOf (now (self .entry)) .function ⌝ }
-    {
-        self.function
-    }
-
-    /// The newest frame's place.
-    pub fn place(&self) -> usize
-        ensures { λ r. ⌜ r ≡ stateOf (now (self .entry)) .place ⌝ }
-    {
-        self.place
-    }
-
-    /// How many slots are in use.
-    pub fn top(&mut self) -> usize
-        ensures value { λ r. ⌜ r ≡ stateOf (now (self .entry)) .top ⌝ }
-        ensures same { λ _. ⌜ now (self .exit) ≡ now (self .entry) ⌝ }
-    {
-        self.slots.len()
-    }
-
-    /// The slots from one up to another.
-    pub fn part(&self, from: usize, to: usize) -> &[u64]
-        requires ordered { ⌜ from ≤ to ⌝ }
-        requires there { ⌜ to ≤ length (stateOf (now self) .slots) ⌝ }
-        ensures { λ r. ⌜ now r ≡ take (to - from) (drop from (stateOf (now (self .entry)) .slots)) ⌝ }
-    {
-        self.slots.part(from, to)
-    }
-
     // Where the caller with this number ends, the newest being 0: where the frame above it begins.
     fn end_of(&mut self, number: usize) -> usize
         requires there { ⌜ number < stateOf (now self) .callers ⌝ }

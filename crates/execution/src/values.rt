@@ -6,12 +6,10 @@ ghost use Rattle.word.specs.Words.{compute as computed};
 ghost use Rattle.runtime.specs.Runtime.{slot as slotIn, wordIn, moved, pushed, assigned, swapped, tried, went};
 ghost use Rattle.ready.specs.Ready.{Bounds, Room};
 ghost use Rattle.execution.specs.View.{stateOf, comes, Still};
-
-use bytecode::instruction::Operation;
-use word::compute;
-
 use crate::Execution;
 use crate::Flow;
+use bytecode::instruction::Operation;
+use word::compute;
 
 // The word in a slot.
 pub(crate) fn word(slot: u64) -> u32

@@ -1,3 +1,4 @@
 pub mod Asking
+pub mod Fetching
 pub mod Running
 pub mod Starting

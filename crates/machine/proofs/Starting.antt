@@ -48,13 +48,14 @@ allowed-sizes P sizes e =
     let c = and-parts (leb (sizes .frames) 64) _ (b .1) in
     let d = and-parts (leb (sizes .cells) 4096) _ (c .1) in
     let f = and-parts (leb (sizes .records) 1024) (leb (reserve (nth (P .functions) 0)) (sizes .slots)) (d .1) in
-    record
-      { slots = leb-true (sizes .slots) 8192 (a .0)
-      ; some = let z = ltb-true 0 (sizes .frames) (b .0) in omega arith
-      ; frames = leb-true (sizes .frames) 64 (c .0)
-      ; cells = leb-true (sizes .cells) 4096 (d .0)
-      ; records = leb-true (sizes .records) 1024 (f .0)
-      ; main = leb-true (reserve (nth (P .functions) 0)) (sizes .slots) (f .1) }
+    record {
+      slots = leb-true (sizes .slots) 8192 (a .0);
+      some = let z = ltb-true 0 (sizes .frames) (b .0) in omega arith;
+      frames = leb-true (sizes .frames) 64 (c .0);
+      cells = leb-true (sizes .cells) 4096 (d .0);
+      records = leb-true (sizes .records) 1024 (f .0);
+      main = leb-true (reserve (nth (P .functions) 0)) (sizes .slots) (f .1);
+    }
 
 pub sizes-allowed : (P : bytecode.Program) (sizes : Sizes) → Allowed P sizes → sizesAllowed P sizes ≡ true
 sizes-allowed P sizes a =

@@ -8,12 +8,12 @@ ghost use Rattle.std.specs.declared.option.Option.the-variants.{Some};
 ghost use Rattle.bytecode.specs.Instructions.{decodeAt};
 ghost use Rattle.plan.specs.Programs.{functionAt};
 ghost use Rattle.reader.specs.View.{programOf, Fitting};
-
 use bytecode::instruction::Instruction;
-use bytecode::instruction::decode;
+use bytecode::instruction::instruction_of;
 use reader::package::Package;
 
-// The instruction at a place of a function, where one stands.
+// The instruction at a place of a function, where one stands. Nothing is tested: it is read from three bytes, of which it may
+// have fewer.
 pub(crate) fn fetch(program: &Package<'_>, function: usize, place: usize) -> Instruction
     requires fitting { ⌜ Fitting (now program) ⌝ }
     requires there { ⌜ function < length (programOf (now program) .functions) ⌝ }
@@ -21,5 +21,6 @@ pub(crate) fn fetch(program: &Package<'_>, function: usize, place: usize) -> Ins
     requires decodes { ⌜ isSome (decodeAt (functionAt (programOf (now program)) function .code) place) ≡ true ⌝ }
     ensures { λ r. ⌜ decodeAt (functionAt (programOf (now (program .entry))) function .code) place ≡ Some r ⌝ }
 {
-    decode(program.code(function), place).unwrap()
+    let (op, first, second) = program.code_bytes(function, place);
+    instruction_of(op, first, second).unwrap()
 }

@@ -29,9 +29,19 @@ enum Condition {
 /// What a run came to, and the steps that it used. A stop stands at a function and a place.
 #[derive(Clone, Copy)]
 pub enum Outcome {
-    Continues { steps: u32 },
-    Ended { word: u32, steps: u32 },
-    Stopped { stop: Stop, function: usize, place: usize, steps: u32 },
+    Continues {
+        steps: u32,
+    },
+    Ended {
+        word: u32,
+        steps: u32,
+    },
+    Stopped {
+        stop: Stop,
+        function: usize,
+        place: usize,
+        steps: u32,
+    },
 }
 
 /// Why a run was refused: the machine is over (32).

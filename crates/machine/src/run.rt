@@ -6,17 +6,15 @@ ghost use Rattle.runtime.specs.Runtime.{runtimeMachine};
 ghost use Rattle.machine.specs.declared.Condition.the-variants.{Live};
 ghost use Rattle.machine.specs.View.{programIn, statusOf, Intact, saw, noFrameFault, faultIn};
 ghost use Rattle.machine.specs.Runs.{Ran};
-
-use execution::Flow;
-use execution::FrameView;
-use host::Host;
-
 use crate::Condition;
 use crate::Machine;
 use crate::NoFrame;
 use crate::Outcome;
 use crate::Over;
 use crate::step::step;
+use execution::Flow;
+use execution::FrameView;
+use host::Host;
 
 impl<'p, 'm> Machine<'p, 'm> {
     // The steps of a run on a living machine.
@@ -26,17 +24,23 @@ impl<'p, 'm> Machine<'p, 'm> {
         ensures { λ r. ⌜ Ran (H·Host .make) (now (self .entry)) (H·Host .state (now (host .entry))) allowance r (now (self .exit)) (H·Host .state (now (host .exit))) ⌝ }
     {
         for used in 0..allowance {
+            let steps = used + 1;
             match step(&self.program, &mut self.execution, host) {
                 Flow::Goes => {}
                 Flow::Ends(word) => {
                     self.condition = Condition::Ended(word);
-                    return Ok(Outcome::Ended { word, steps: used + 1 });
+                    return Ok(Outcome::Ended { word, steps });
                 }
                 Flow::Stops(stop) => {
                     self.condition = Condition::Stopped(stop);
                     let function = self.execution.function();
                     let place = self.execution.place();
-                    return Ok(Outcome::Stopped { stop, function, place, steps: used + 1 });
+                    return Ok(Outcome::Stopped {
+                        stop,
+                        function,
+                        place,
+                        steps,
+                    });
                 }
             }
         }

@@ -6,11 +6,9 @@ ghost use Rattle.std.specs.declared.option.Option.the-variants.{Some, None};
 ghost use Rattle.verifier.specs.Checking.{Checked, meaningOf};
 ghost use Rattle.machine.specs.View.{sizesFault, faultIn};
 ghost use Rattle.machine.specs.Sizes.{sizesAllowed};
-
+use crate::SizesRefused;
 use execution::calls::reserve;
 use verifier::program::Program;
-
-use crate::SizesRefused;
 
 const SLOT_LIMIT: usize = 8192;
 
@@ -25,7 +23,12 @@ pub fn allows(program: &Program<'_>, slots: usize, frames: usize, cells: usize, 
     requires { ⌜ Checked (now program) ⌝ }
     ensures { λ r. ⌜ faultIn sizesFault r ≡ cond (sizesAllowed (meaningOf (now (program .entry))) (record { slots = slots; frames = frames; cells = cells; records = records })) None (Some (30, 0, 0)) ⌝ }
 {
-    if slots > SLOT_LIMIT || frames == 0 || frames > FRAME_LIMIT || cells > CELL_LIMIT || records > RECORD_LIMIT {
+    if slots > SLOT_LIMIT
+        || frames == 0
+        || frames > FRAME_LIMIT
+        || cells > CELL_LIMIT
+        || records > RECORD_LIMIT
+    {
         return Err(SizesRefused);
     }
     if reserve(program.contents().variables(0)) > slots {

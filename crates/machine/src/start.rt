@@ -11,16 +11,14 @@ ghost use Rattle.runtime.specs.Law.{sizesOf, begun, Law};
 ghost use Rattle.verifier.specs.Checking.{Checked, meaningOf};
 ghost use Rattle.machine.specs.View.{stateOf, statusOf, lent, Intact};
 ghost use Rattle.machine.specs.Sizes.{sizesAllowed};
-
+use crate::Condition;
+use crate::Machine;
 use execution::Execution;
 use execution::Lent;
 use heap::BlockRecord;
 use heap::Cell;
 use runtime::FrameRecord;
 use verifier::program::Program;
-
-use crate::Condition;
-use crate::Machine;
 
 impl<'p, 'm> Machine<'p, 'm> {
     /// Starts an accepted program over memory of sizes that were allowed. It cannot refuse. What the machine is owed from here on, over

@@ -30,7 +30,7 @@ lengths-differ (k ∷ ks) (l ∷ ls) ne = pick (sameKind k l) (lengths-differ ks
     pick false e = refl
 
 pub kinds-turn : (ks ls : List Kind) (i : ℕ) → i < length ks → i < length ls
-  → sameKinds (drop i ks) (drop i ls) ≡ cond (sameKind (getD ks i Unknown) (getD ls i Unknown)) (sameKinds (drop (i + 1) ks) (drop (i + 1) ls)) false
+    → sameKinds (drop i ks) (drop i ls) ≡ cond (sameKind (getD ks i Unknown) (getD ls i Unknown)) (sameKinds (drop (i + 1) ks) (drop (i + 1) ls)) false
 kinds-turn ks ls i a b = at-drop-more (λ xs. sameKinds xs (drop i ls)) ks i Unknown a ∙ at-drop-more (sameKinds (getD ks i Unknown ∷ drop (i + 1) ks)) ls i Unknown b
 
 pub kinds-all : (ks ls : List Kind) (i : ℕ) → length ks ≤ i → length ls ≤ i → sameKinds (drop i ks) (drop i ls) ≡ true
@@ -39,7 +39,7 @@ kinds-all ks ls i a b = at-drop-all (λ xs. sameKinds xs (drop i ls)) ks i a ∙
 -- ## Arguments
 
 arguments-drop : (ks : List Kind) (mem : List ℕ) (i j : ℕ) → j < length ks
-  → getD (argumentsFrom ks mem i) j (Argument.Word 0) ≡ argumentOf (getD ks j Unknown) (getD mem (i + j) 0)
+    → getD (argumentsFrom ks mem i) j (Argument.Word 0) ≡ argumentOf (getD ks j Unknown) (getD mem (i + j) 0)
 arguments-drop [] mem i j lt = absurd (let b : ⊥ = omega arith in b)
 arguments-drop (k ∷ ks) mem i zero lt = ap (λ n. argumentOf k (getD mem n 0)) (let e : i ≡ i + 0 = omega arith in e)
 arguments-drop (k ∷ ks) mem i (suc j) lt =
@@ -50,8 +50,8 @@ arguments-length [] mem i = refl
 arguments-length (k ∷ ks) mem i = ap suc (arguments-length ks mem (suc i))
 
 pub arguments-turn : (ks : List Kind) (mem : List ℕ) (told : List Argument) (i : ℕ) (a : Argument) → i < length ks → i < length told
-  → take i told ≡ take i (argumentsFrom ks mem 0) → a ≡ argumentOf (getD ks i Unknown) (getD mem i 0)
-  → take (i + 1) (set told i a) ≡ take (i + 1) (argumentsFrom ks mem 0)
+    → take i told ≡ take i (argumentsFrom ks mem 0) → a ≡ argumentOf (getD ks i Unknown) (getD mem i 0)
+    → take (i + 1) (set told i a) ≡ take (i + 1) (argumentsFrom ks mem 0)
 arguments-turn ks mem told i a lt room e is =
     let n = arguments-length ks mem 0 in
     take-more-set told i a room
@@ -59,7 +59,7 @@ arguments-turn ks mem told i a lt room e is =
     ∙ sym (take-more (argumentsFrom ks mem 0) i (Argument.Word 0) (omega arith))
 
 pub arguments-all : (ks : List Kind) (mem : List ℕ) (told : List Argument) (i n : ℕ) → n ≡ i → n ≡ length ks → take i told ≡ take i (argumentsFrom ks mem 0)
-  → take n told ≡ argumentsFrom ks mem 0
+    → take n told ≡ argumentsFrom ks mem 0
 arguments-all ks mem told i n e q h =
     ap (λ m. take m told) e ∙ h ∙ take-all i (argumentsFrom ks mem 0) (let a = arguments-length ks mem 0 in omega arith)
 
@@ -72,14 +72,14 @@ found true n (suc left) ks mem i = nth (numbersFrom ks mem i) left
 found false n left ks mem i = nth (numbersFrom ks mem i) left
 
 pub numbers-turn : (ks : List Kind) (mem : List ℕ) (i left : ℕ) → i < length ks
-  → nth (numbersFrom (drop i ks) mem i) left ≡ found (sameKind (getD ks i Unknown) Ref) (getD mem i 0) left (drop (i + 1) ks) mem (i + 1)
+    → nth (numbersFrom (drop i ks) mem i) left ≡ found (sameKind (getD ks i Unknown) Ref) (getD mem i 0) left (drop (i + 1) ks) mem (i + 1)
 numbers-turn ks mem i left lt =
     at-drop-more (λ xs. nth (numbersFrom xs mem i) left) ks i Unknown lt
     ∙ ap (λ j. nth (numberIf (getD ks i Unknown) (getD mem i 0) (numbersFrom (drop (i + 1) ks) mem j)) left) (let e : suc i ≡ i + 1 = omega arith in e)
     ∙ pick (getD ks i Unknown) left
   where
     pick : (k : Kind) (left : ℕ)
-      → nth (numberIf k (getD mem i 0) (numbersFrom (drop (i + 1) ks) mem (i + 1))) left ≡ found (sameKind k Ref) (getD mem i 0) left (drop (i + 1) ks) mem (i + 1)
+        → nth (numberIf k (getD mem i 0) (numbersFrom (drop (i + 1) ks) mem (i + 1))) left ≡ found (sameKind k Ref) (getD mem i 0) left (drop (i + 1) ks) mem (i + 1)
     pick Unknown left = refl
     pick Word left = refl
     pick Ref zero = refl

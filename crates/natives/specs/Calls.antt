@@ -8,8 +8,9 @@ use Rattle.runtime.specs.Runtime.{argumentsFrom, numbersFrom, textIn}
 
 abbrev pub callWith : Program → Native → List ℕ → Call
 callWith P n slots =
-    record
-      { index = n .index
-      ; arguments = argumentsFrom (n .signature .arguments) slots 0
-      ; first = textIn (P .strings) (nth (numbersFrom (n .signature .arguments) slots 0) 0)
-      ; second = textIn (P .strings) (nth (numbersFrom (n .signature .arguments) slots 0) 1) }
+    record {
+      index = n .index;
+      arguments = argumentsFrom (n .signature .arguments) slots 0;
+      first = textIn (P .strings) (nth (numbersFrom (n .signature .arguments) slots 0) 0);
+      second = textIn (P .strings) (nth (numbersFrom (n .signature .arguments) slots 0) 1);
+    }

@@ -9,7 +9,6 @@ ghost use Rattle.host.specs.View.{signatureOf, textOf as textShown};
 ghost use Rattle.checked.specs.Machine.{sameKind, sameKinds, agrees as agreeing};
 ghost use Rattle.runtime.specs.Runtime.{argumentOf, argumentsFrom, numbersFrom, textIn};
 ghost use Rattle.natives.specs.Calls.{callWith};
-
 use bytecode::kind::Kind;
 use host::call::Argument;
 use host::call::Call;
@@ -95,7 +94,12 @@ fn write_arguments(program: &Package<'_>, native: usize, slots: &[u64], told: &m
 }
 
 /// The number of a reference argument, by its position among these.
-pub fn reference(program: &Package<'_>, native: usize, slots: &[u64], position: usize) -> Option<u64>
+pub fn reference(
+    program: &Package<'_>,
+    native: usize,
+    slots: &[u64],
+    position: usize,
+) -> Option<u64>
     requires fitting { ⌜ Fitting (now program) ⌝ }
     requires there { ⌜ native < now program .«native_count» ⌝ }
     requires all { ⌜ length (now slots) ≡ length (nativeIn (programOf (now program)) native .signature .arguments) ⌝ }
@@ -123,13 +127,23 @@ fn text_of<'a>(strings: &'a [u8], number: Option<u64>) -> Text<'a>
             if n == 0 {
                 return no_text();
             }
-            if n < BLOCKS { find_text(strings, (n - 1) as usize) } else { no_text() }
+            if n < BLOCKS {
+                find_text(strings, (n - 1) as usize)
+            } else {
+                no_text()
+            }
         }
     }
 }
 
 // Calls the host, all that it is told being lent for one time.
-fn tell<'a, H: Host>(host: &mut H, index: u16, arguments: &'a [Argument], first: &'a [u8], second: &'a [u8]) -> Reply
+fn tell<'a, H: Host>(
+    host: &mut H,
+    index: u16,
+    arguments: &'a [Argument],
+    first: &'a [u8],
+    second: &'a [u8],
+) -> Reply
     ensures reply { λ r. ⌜ r ≡ H·Host .make .replies (H·Host .state (now (host .entry))) (record { index = index; arguments = now (arguments .entry); first = record { bytes = now (first .entry) }; second = record { bytes = now (second .entry) } }) ⌝ }
     ensures after { λ _. ⌜ H·Host .state (now (host .exit)) ≡ H·Host .make .becomes (H·Host .state (now (host .entry))) (record { index = index; arguments = now (arguments .entry); first = record { bytes = now (first .entry) }; second = record { bytes = now (second .entry) } }) ⌝ }
 {

@@ -13,7 +13,7 @@ use Rattle.std.specs.shelf.Lists.{All}
 use Rattle.bytecode.specs.declared.kind.Kind.the-variants.{Word, Reference}
 use Rattle.reader.specs.Fields.{byte, four, bytesFrom}
 use Rattle.reader.specs.Layout.{kindOf}
-use Rattle.reader.specs.View.{functionOf, nativeOf, programOf, codeSize, KnownKind, FrontFits, FunctionFits, FunctionLettered, FunctionsKnown, FunctionFormed, NativeFits, NativeLettered, NativesKnown, NativeFormed, Fitting}
+use Rattle.reader.specs.View.{functionOf, nativeOf, programOf, codeSize, KnownKind, FrontFits, FunctionFits, FunctionLettered, FunctionsKnown, FunctionFormed, NativeFits, NativeLettered, NativesKnown, NativeFormed, Fitting, FunctionBehind}
 use Rattle.reader.specs.declared.package.Package.{Package}
 use Rattle.reader.specs.declared.package.Function.{Function}
 use Rattle.reader.specs.declared.package.Native.{Native}
@@ -68,8 +68,9 @@ natives-formed bs (f ∷ fs) h k = (native-formed bs f (h .0) (k .0), natives-fo
 pub fitting-from : (p : Package) → length (p .functions) ≡ 64 → length (p .natives) ≡ 32 → 0 < p .«function_count» → p .«function_count» ≤ 64 → p .«native_count» ≤ 32 →
     FrontFits (now (p .bytes)) (p .integers) (p .«integer_count») (p .strings) (p .«string_size») →
     FunctionsKnown (now (p .bytes)) (take (p .«function_count») (p .functions)) → NativesKnown (now (p .bytes)) (take (p .«native_count») (p .natives)) →
+    All (FunctionBehind (now (p .bytes))) (take (p .«function_count») (p .functions)) →
     codeSize (programOf p .functions) ≡ p .«code_size» → Fitting p
-fitting-from p fs ns some few fewer front functions natives sum =
+fitting-from p fs ns some few fewer front functions natives behind sum =
     record {
       functionRoom = fs;
       nativeRoom = ns;
@@ -78,6 +79,7 @@ fitting-from p fs ns some few fewer front functions natives sum =
       fewNatives = fewer;
       front = front;
       functions = functions;
+      behind = behind;
       natives = natives;
       formed = functions-formed (now (p .bytes)) (take (p .«function_count») (p .functions)) (functions .each) (functions .lettered);
       nativesFormed = natives-formed (now (p .bytes)) (take (p .«native_count») (p .natives)) (natives .each) (natives .lettered);

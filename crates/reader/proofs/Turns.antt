@@ -9,10 +9,10 @@ use Rattle.std.proofs.shelf.Lists.{take-more-set, map-push, length-take-le, len
 use Rattle.std.proofs.shelf.Elements.{all-push, all-set, all-getD}
 use Rattle.std.proofs.shelf.Counted.{map-counting-more}
 use Rattle.std.specs.shelf.Lists.{All}
-use Rattle.bytecode.specs.Outcome.{good, bad, bind, Fault}
-use Rattle.reader.specs.Fields.{byte, four, bytesFrom, bytesAt}
-use Rattle.reader.specs.Layout.{integerAt, FunctionEntry, codeBytes, isLetter, areLetters}
-use Rattle.reader.specs.View.{integersFrom, functionEntryOf, noFunctionRecord, FunctionFits, FunctionsFit}
+use Rattle.bytecode.specs.Outcome.{good, bad, bind, Fault, Out, refuse}
+use Rattle.reader.specs.Fields.{byte, four, bytesFrom, bytesAt, field, fourAt}
+use Rattle.reader.specs.Layout.{integerAt, FunctionEntry, codeBytes, isLetter, areLetters, Read}
+use Rattle.reader.specs.View.{integersFrom, functionEntryOf, noFunctionRecord, FunctionFits, FunctionsFit, FunctionEnds, FunctionBehind}
 use Rattle.reader.specs.declared.package.Function.{Function}
 use Rattle.reader.proofs.Fits.{bytes-length}
 use lib.Dec.{leb}
@@ -109,3 +109,20 @@ pub first-set : {X : Type 0} (P : X → Type 0) (xs : List X) (i : ℕ) (x d : X
 first-set P [] i x d l h k = absurd (omega arith)
 first-set P (y ∷ ys) zero x d l h k = k refl
 first-set P (y ∷ ys) (suc i) x d l h k = h (omega arith)
+
+-- ## Where codes end
+
+all-weaker : {X : Type 0} (P Q : X → Type 0) (xs : List X) → ((x : X) → P x → Q x) → All P xs → All Q xs
+all-weaker P Q [] w h = tt
+all-weaker P Q (x ∷ xs) w h = (w x (h .0), all-weaker P Q xs w (h .1))
+
+-- one more function, which begins where the others have ended
+pub ends-more : (fs : List Function) (i : ℕ) (f : Function) (p : ℕ) → i < length fs → All (FunctionEnds p) (take i fs) → p ≤ f .code
+  → All (FunctionEnds (f .code + f .size)) (take (i + 1) (set fs i f))
+ends-more fs i f p l h k =
+    let here : f .code + f .size ≤ f .code + f .size = omega arith in
+    filled-all (FunctionEnds (f .code + f .size)) fs i f l (all-weaker (FunctionEnds p) (FunctionEnds (f .code + f .size)) (take i fs) (λ g e. omega arith) h) here
+
+-- two more bytes stand behind the functions
+pub ends-behind : (bs : List ℕ) (fs : List Function) (p : ℕ) → p + 2 ≤ length bs → All (FunctionEnds p) fs → All (FunctionBehind bs) fs
+ends-behind bs fs p l h = all-weaker (FunctionEnds p) (FunctionBehind bs) fs (λ g e. omega arith) h

@@ -86,6 +86,20 @@ pub record FunctionFits (bs : List ℕ) (f : Function) : Type 0 where
   pub narrow : f .variables ≤ 32
   pub ordered : f .arguments ≤ f .variables
 
+-- a function's code ends at an offset, or before it
+abbrev pub FunctionEnds : ℕ → Function → Type 0
+FunctionEnds p f = f .code + f .size ≤ p
+
+-- two bytes stand behind a function's code: there is more than codes in a package
+abbrev pub FunctionBehind : List ℕ → Function → Type 0
+FunctionBehind bs f = f .code + f .size + 2 ≤ length bs
+
+-- the byte at a place of a code, and the two after it, so far as they stand in the code
+pub record BytesAt (code : List ℕ) (place x y z : ℕ) : Type 0 where
+  pub here : x ≡ byte code place
+  pub next : place + 1 < length code → y ≡ byte code (place + 1)
+  pub last : place + 2 < length code → z ≡ byte code (place + 2)
+
 -- functions within the limits; the first is main
 pub record FunctionsFit (bs : List ℕ) (fs : List Function) : Type 0 where
   pub each : All (FunctionFits bs) fs
@@ -148,6 +162,7 @@ pub record Fitting (p : Package) : Type 0 where
   pub fewNatives : p .«native_count» ≤ 32
   pub front : FrontFits (now (p .bytes)) (p .integers) (p .«integer_count») (p .strings) (p .«string_size»)
   pub functions : FunctionsKnown (now (p .bytes)) (take (p .«function_count») (p .functions))
+  pub behind : All (FunctionBehind (now (p .bytes))) (take (p .«function_count») (p .functions))
   pub natives : NativesKnown (now (p .bytes)) (take (p .«native_count») (p .natives))
   pub formed : All FunctionFormed (programOf p .functions)
   pub nativesFormed : All NativeFormed (programOf p .natives)

@@ -5,7 +5,7 @@ ghost use lib.ListN.{length, getD};
 ghost use Rattle.bytecode.specs.declared.kind.Kind.the-variants.{Unknown};
 ghost use Rattle.reader.specs.Fields.{byte as byteOf, four, bytesFrom};
 ghost use Rattle.reader.specs.Layout.{kindOf, signatureFrom};
-ghost use Rattle.reader.specs.View.{integersFrom, functionOf, nativeOf, programOf, functionIn, nativeIn, FunctionFits, FunctionLettered, NativeFits, NativeLettered, Fitting};
+ghost use Rattle.reader.specs.View.{integersFrom, functionOf, nativeOf, programOf, functionIn, nativeIn, FunctionFits, FunctionLettered, NativeFits, NativeLettered, Fitting, FunctionBehind, BytesAt};
 use bytecode::kind::Kind;
 
 /// A function's pool entry, the offset of its code, and where its sheet record has the letter of its result (those of the arguments follow).
@@ -89,6 +89,15 @@ fn part<'a>(bytes: &'a [u8], from: usize, size: usize) -> &'a [u8]
     &bytes[from..to]
 }
 
+// The byte at an offset behind another, and the two after it.
+fn three_from(bytes: &[u8], start: usize, place: usize) -> (u8, u8, u8)
+    requires { ⌜ start + place + 2 < length (now bytes) ⌝ }
+    ensures { λ r. ⌜ r ≡ (byteOf (now (bytes .entry)) (start + place), byteOf (now (bytes .entry)) (start + place + 1), byteOf (now (bytes .entry)) (start + place + 2)) ⌝ }
+{
+    let at = start + place;
+    (bytes[at], bytes[at + 1], bytes[at + 2])
+}
+
 impl<'a> Package<'a> {
     fn function_at(&self, function: usize) -> Function
         requires fitting { ⌜ Fitting (now self) ⌝ }
@@ -96,6 +105,7 @@ impl<'a> Package<'a> {
         ensures met { λ r. ⌜ functionIn (programOf (now (self .entry))) function ≡ functionOf (now (now (self .entry) .bytes)) r ⌝ }
         ensures fits { λ r. ⌜ FunctionFits (now (now (self .entry) .bytes)) r ⌝ }
         ensures lettered { λ r. ⌜ FunctionLettered (now (now (self .entry) .bytes)) r ⌝ }
+        ensures behind { λ r. ⌜ FunctionBehind (now (now (self .entry) .bytes)) r ⌝ }
         ensures takes { λ r. ⌜ length (functionIn (programOf (now (self .entry))) function .signature .arguments) ≡ r .arguments ⌝ }
     {
         self.functions[function]
@@ -139,6 +149,17 @@ impl<'a> Package<'a> {
     {
         let entry = self.function_at(function);
         part(self.bytes, entry.code, entry.size as usize)
+    }
+
+    /// The byte at a place of a function's code, and the two after it. Where the code ends before those, they stand behind it.
+    pub fn code_bytes(&self, function: usize, place: usize) -> (u8, u8, u8)
+        requires fitting { ⌜ Fitting (now self) ⌝ }
+        requires inside { ⌜ function < now self .«function_count» ⌝ }
+        requires within { ⌜ place < length (functionIn (programOf (now self)) function .code) ⌝ }
+        ensures { λ r. ⌜ BytesAt (functionIn (programOf (now (self .entry))) function .code) place (r .0) (r .1) (r .2) ⌝ }
+    {
+        let found = self.function_at(function);
+        three_from(self.bytes, found.code, place)
     }
 
     /// How many variables a function has, its arguments among them.

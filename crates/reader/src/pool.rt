@@ -8,7 +8,7 @@ ghost use Rattle.std.specs.shelf.Lists.{All};
 ghost use Rattle.bytecode.specs.Outcome.{told};
 ghost use Rattle.reader.specs.Fields.{byte as byteOf, four, bytesFrom};
 ghost use Rattle.reader.specs.Layout.{integersAt, stringsAt, functionAt, functionsAt, nativeAt, nativesAt, codeBytes};
-ghost use Rattle.reader.specs.View.{integersFrom, functionEntryOf, nativeEntryOf, FunctionFits, FunctionsFit, NativeFits};
+ghost use Rattle.reader.specs.View.{integersFrom, functionEntryOf, nativeEntryOf, FunctionFits, FunctionEnds, FunctionsFit, NativeFits};
 use crate::field::block;
 use crate::field::byte;
 use crate::field::pair;
@@ -63,6 +63,7 @@ fn read_function(
     ensures met { λ r. ⌜ functionAt (now (bytes .entry)) index offset before ≡ told (λ f. record { value = functionEntryOf (now (bytes .entry)) f; after = f .code + f .size }) r ⌝ }
     ensures fits { λ r. ⌜ made r (λ f. FunctionFits (now (bytes .entry)) f) ⌝ }
     ensures few { λ r. ⌜ made r (λ f. before + f .size ≤ 4096) ⌝ }
+    ensures onward { λ r. ⌜ made r (λ f. offset ≤ f .code) ⌝ }
     ensures main { λ r. ⌜ made r (λ f. (index ≡ 0 → f .arguments ≡ 0)) ⌝ }
 {
     let arguments = byte(bytes, offset)?;
@@ -107,6 +108,7 @@ pub(crate) fn read_functions(
     ensures met { λ r. ⌜ functionsAt (now (bytes .entry)) count offset ≡ told (λ q. record { value = map (functionEntryOf (now (bytes .entry))) (take count (now (list .exit))); after = q .after }) r ⌝ }
     ensures room { λ r. ⌜ made r (λ q. q .after ≤ length (now (bytes .entry))) ⌝ }
     ensures fit { λ r. ⌜ made r (λ _. FunctionsFit (now (bytes .entry)) (take count (now (list .exit)))) ⌝ }
+    ensures ends { λ r. ⌜ made r (λ q. All (FunctionEnds (q .after)) (take count (now (list .exit)))) ⌝ }
     ensures sum { λ r. ⌜ made r (λ q. codeBytes (map (functionEntryOf (now (bytes .entry))) (take count (now (list .exit)))) ≡ q .«code_size») ⌝ }
 {
     let mut after = offset;

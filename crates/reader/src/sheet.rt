@@ -10,7 +10,7 @@ ghost use Rattle.bytecode.specs.Outcome.{told};
 ghost use Rattle.bytecode.specs.declared.kind.Kind.the-variants.{Word};
 ghost use Rattle.reader.specs.Fields.{byte as byteOf};
 ghost use Rattle.reader.specs.Layout.{isLetter, areLetters, kindOf, signatureFrom, recordAt, functionSheetAt, functionArguments, nativeSheetAt, nativeArguments, sheetAt, codeBytes};
-ghost use Rattle.reader.specs.View.{functionEntryOf, functionSignatureOf, nativeEntryOf, nativeSignatureOf, functionOf, nativeOf, noFunctionRecord, FunctionFits, FunctionsFit, FunctionLettered, FunctionsKnown, NativeFits, NativeLettered, NativesKnown, codeSize};
+ghost use Rattle.reader.specs.View.{functionEntryOf, functionSignatureOf, nativeEntryOf, nativeSignatureOf, functionOf, nativeOf, noFunctionRecord, FunctionFits, FunctionBehind, FunctionsFit, FunctionLettered, FunctionsKnown, NativeFits, NativeLettered, NativesKnown, codeSize};
 use crate::field::pair_low;
 use crate::field::refused;
 use crate::package::Function;
@@ -87,10 +87,12 @@ pub(crate) fn read_function_sheet(
     requires inside { ⌜ offset ≤ length (now bytes) ⌝ }
     requires few { ⌜ count ≤ 64 ⌝ }
     requires fit { ⌜ All (FunctionFits (now bytes)) (take count (now list)) ⌝ }
+    requires behind { ⌜ All (FunctionBehind (now bytes)) (take count (now list)) ⌝ }
     ensures met { λ r. ⌜ functionSheetAt (now (bytes .entry)) count (map functionArguments (map (functionEntryOf (now (bytes .entry))) (take count (now (list .entry))))) offset ≡ told (λ q. record { value = map (functionSignatureOf (now (bytes .entry))) (take count (now (list .exit))); after = q }) r ⌝ }
     ensures room { λ r. ⌜ made r (λ q. q ≤ length (now (bytes .entry))) ⌝ }
     ensures kept { λ r. ⌜ map (functionEntryOf (now (bytes .entry))) (take count (now (list .exit))) ≡ map (functionEntryOf (now (bytes .entry))) (take count (now (list .entry))) ⌝ }
     ensures fit { λ r. ⌜ All (FunctionFits (now (bytes .entry))) (take count (now (list .exit))) ⌝ }
+    ensures behind { λ r. ⌜ All (FunctionBehind (now (bytes .entry))) (take count (now (list .exit))) ⌝ }
     ensures lettered { λ r. ⌜ made r (λ _. All (FunctionLettered (now (bytes .entry))) (take count (now (list .exit)))) ⌝ }
     ensures gives { λ r. ⌜ made r (λ _. (0 < count → kindOf (byteOf (now (bytes .entry)) (getD (now (list .exit)) 0 noFunctionRecord .kinds)) ≡ Word)) ⌝ }
 {
@@ -146,9 +148,11 @@ pub(crate) fn read_sheet(
     requires fewFunctions { ⌜ «function_count» ≤ 64 ⌝ }
     requires fewNatives { ⌜ «native_count» ≤ 32 ⌝ }
     requires functionsFit { ⌜ FunctionsFit (now bytes) (take «function_count» (now functions)) ⌝ }
+    requires behind { ⌜ All (FunctionBehind (now bytes)) (take «function_count» (now functions)) ⌝ }
     requires nativesFit { ⌜ All NativeFits (take «native_count» (now natives)) ⌝ }
     ensures met { λ r. ⌜ sheetAt (now (bytes .entry)) «function_count» (map (functionEntryOf (now (bytes .entry))) (take «function_count» (now (functions .entry)))) «native_count» (map nativeEntryOf (take «native_count» (now (natives .entry)))) offset ≡ told (λ _. record { functions = map (functionOf (now (bytes .entry))) (take «function_count» (now (functions .exit))); natives = map (nativeOf (now (bytes .entry))) (take «native_count» (now (natives .exit))) }) r ⌝ }
     ensures functionsKnown { λ r. ⌜ made r (λ _. FunctionsKnown (now (bytes .entry)) (take «function_count» (now (functions .exit)))) ⌝ }
+    ensures behind { λ r. ⌜ All (FunctionBehind (now (bytes .entry))) (take «function_count» (now (functions .exit))) ⌝ }
     ensures nativesKnown { λ r. ⌜ made r (λ _. NativesKnown (now (bytes .entry)) (take «native_count» (now (natives .exit)))) ⌝ }
     ensures sum { λ r. ⌜ made r (λ _. codeSize (map (functionOf (now (bytes .entry))) (take «function_count» (now (functions .exit)))) ≡ codeBytes (map (functionEntryOf (now (bytes .entry))) (take «function_count» (now (functions .entry))))) ⌝ }
 {

@@ -42,6 +42,7 @@ whole-inside code p i e = pick (instructionOf (byteAt code p) (byteAt code (p + 
     tested : (b : Bool) (j : Instruction) → leb (p + sizeOf j) (length code) ≡ b → cond b (Some j) None ≡ Some i → p + sizeOf i ≤ length code
     tested true j q e = let k : j ≡ i = cc in subst (λ i. p + sizeOf i ≤ length code) k (leb-true (p + sizeOf j) (length code) q)
     tested false j q e = absurd (let z : _≡_ {A = ℕ} 0 1 = cc in let b : ⊥ = omega arith in b)
+
     pick : (o : Option Instruction) → whole code p o ≡ Some i → p + sizeOf i ≤ length code
     pick None e = absurd (let z : _≡_ {A = ℕ} 0 1 = cc in let b : ⊥ = omega arith in b)
     pick (Some j) e = tested (leb (p + sizeOf j) (length code)) j refl e
@@ -79,9 +80,8 @@ some-size Cmstore = omega arith
 some-size Amstore = omega arith
 
 module _ (P : Program) (plans : Plans) (ok : Accepted P plans) (sizes : Sizes) (f p : ℕ) (vs : List (Option Value)) (st : List Value)
-  (rest : List Frame) (h : Heap) (l : State) (d : Fits P plans f p vs (map kindOf st)) (callers : Callers P plans f rest)
-  (r : Represents P sizes f p vs st rest h l) where
-
+    (rest : List Frame) (h : Heap) (l : State) (d : Fits P plans f p vs (map kindOf st)) (callers : Callers P plans f rest)
+    (r : Represents P sizes f p vs st rest h l) where
   depth : length st ≡ length (d .shape .stack)
   depth = sym (length-map kindOf st) ∙ ap length (sym (d .stack))
 
@@ -127,11 +127,11 @@ module _ (P : Program) (plans : Plans) (ok : Accepted P plans) (sizes : Sizes) (
       pick (Some to) hit = refl
 
   inside : (c count : ℕ) (k : Kind) (x : Shape) → performed f p (variablesAt P f) (d .shape) (within c count (fixed [] (k ∷ []))) ≡ good x
-    → Room l × (c < count)
+      → Room l × (c < count)
   inside c count k x e = pick (ltb c count) refl e
     where
       pick : (b : Bool) → ltb c count ≡ b → performed f p (variablesAt P f) (d .shape) (cond b (Some (fixed [] (k ∷ []))) None) ≡ good x
-        → Room l × (c < count)
+          → Room l × (c < count)
       pick false q h = absurd (let z : _≡_ {A = ℕ} 0 1 = cc in let b : ⊥ = omega arith in b)
       pick true q h = (room-one k x (replaced f p (variablesAt P f) [] (k ∷ []) (d .shape) x h), ltb-true c count q)
 
@@ -157,26 +157,27 @@ module _ (P : Program) (plans : Plans) (ok : Accepted P plans) (sizes : Sizes) (
   known-both ks e = pick (before (Ref ∷ Ref ∷ ks) e) r
     where
       pick : {st : List Value} {ks : List Kind} → Kinded st (Ref ∷ Ref ∷ ks) → Represents P sizes f p vs st rest h l
-        → (2 ≤ l .top) × KnownIn l (l .top - 2) × KnownIn l (l .top - 1)
+          → (2 ≤ l .top) × KnownIn l (l .top - 2) × KnownIn l (l .top - 1)
       pick (refs {r = b} (refs {r = a} {st = t} k)) r =
           let w = two P sizes f p vs rest h l P (reference b) (reference a) t r in
           (let m = flat-length f p vs (reference b ∷ reference a ∷ t) rest in let b = r .top in omega arith, w .first .1, w .second .1)
 
   calls : (c : ℕ) (x : Shape) (o : Option Function) → nth (P .functions) c ≡ o → performed f p (variablesAt P f) (d .shape) (callStatic o) ≡ good x
-    → (c < length (P .functions)) × (length (functionAt P c .signature .arguments) ≤ l .top) × (variablesAt P c ≤ 32)
+      → (c < length (P .functions)) × (length (functionAt P c .signature .arguments) ≤ l .top) × (variablesAt P c ≤ 32)
   calls c x None known e = absurd (let z : _≡_ {A = ℕ} 0 1 = cc in let b : ⊥ = omega arith in b)
   calls c x (Some g) known e =
       let y = replaced f p (variablesAt P f) (reverse (g .signature .arguments)) (g .signature .result ∷ []) (d .shape) x e in
       let a = ap length (y .before) ∙ length-append (reverse (g .signature .arguments)) (y .rest) in
       let b = length-reverse (g .signature .arguments) in
       let n : length (g .signature .arguments) ≤ l .top = (let i = depth in let j = deep in omega arith) in
-      let is : functionAt P c ≡ g = nth-getD (P .functions) c g noFunction known in
-      ( nth-within (P .functions) c g known
-      , subst (λ k. length (k .signature .arguments) ≤ l .top) (sym is) n
-      , subst (λ k. k .variables ≤ 32) (sym is) (ok .formed .functions c g known .few) )
+      let is : functionAt P c ≡ g = nth-getD (P .functions) c g noFunction known in (
+        nth-within (P .functions) c g known,
+        subst (λ k. length (k .signature .arguments) ≤ l .top) (sym is) n,
+        subst (λ k. k .variables ≤ 32) (sym is) (ok .formed .functions c g known .few),
+      )
 
   natives : (c : ℕ) (x : Shape) (o : Option Native) → nth (P .natives) c ≡ o → performed f p (variablesAt P f) (d .shape) (callNative o) ≡ good x
-    → Safe P (Invokenative c) l
+      → Safe P (Invokenative c) l
   natives c x None known e = absurd (let z : _≡_ {A = ℕ} 0 1 = cc in let b : ⊥ = omega arith in b)
   natives c x (Some m) known e =
       let y = replaced f p (variablesAt P f) (reverse (m .signature .arguments)) (m .signature .result ∷ []) (d .shape) x e in
@@ -187,10 +188,11 @@ module _ (P : Program) (plans : Plans) (ok : Accepted P plans) (sizes : Sizes) (
       let is : nativeAt P c ≡ m = nth-getD (P .natives) c m noNative known in
       let n : length (m .signature .arguments) ≤ l .top = (let i = depth in let j = deep in omega arith) in
       let q : l .top - length (m .signature .arguments) < length (l .slots) =
-        (let i = depth in let j = flat-length f p vs st rest in let t = r .top in let u = enough in omega arith) in
-      ( nth-within (P .natives) c m known
-      , subst (λ z. length (z .signature .arguments) ≤ l .top) (sym is) n
-      , subst (λ z. l .top - length (z .signature .arguments) < length (l .slots)) (sym is) q )
+      (let i = depth in let j = flat-length f p vs st rest in let t = r .top in let u = enough in omega arith) in (
+        nth-within (P .natives) c m known,
+        subst (λ z. length (z .signature .arguments) ≤ l .top) (sym is) n,
+        subst (λ z. l .top - length (z .signature .arguments) < length (l .slots)) (sym is) q,
+      )
 
   -- the last return gives main's word
   last-word : d .shape .stack ≡ functionAt P f .signature .result ∷ [] → l .callers ≡ 0 → slot l (l .top - 1) < 2 ^ 32
@@ -198,6 +200,7 @@ module _ (P : Program) (plans : Plans) (ok : Accepted P plans) (sizes : Sizes) (
     where
       only : (st : List Value) → Kinded st (Word ∷ []) → Represents P sizes f p vs st rest h l → slot l (l .top - 1) < 2 ^ 32
       only st (words {n} {st = t} k) r = let a = one P sizes f p vs rest h l P (word n) t r .stood in let b = a .0 in let c = a .1 in omega arith
+
       pick : (g : ℕ) (rs : List Frame) → Callers P plans g rs → length rs ≡ 0 → g ≡ f → slot l (l .top - 1) < 2 ^ 32
       pick g rs main z eq = only st (before (Word ∷ []) (e ∙ ap (λ k. functionAt P k .signature .result ∷ []) (sym eq) ∙ ap (λ k. k ∷ []) (ok .word))) r
       pick g rs (more w ws) z eq = absurd (let b : ⊥ = omega arith in b)
@@ -209,12 +212,13 @@ module _ (P : Program) (plans : Plans) (ok : Accepted P plans) (sizes : Sizes) (
       let c = r .base in
       let self = ap (λ g. g .variables) (is-function P plans ok f (d .self) (d .known)) in
       let k = ap reserve (d .known) in
-      let v : variablesAt P f + 32 ≤ l .reserved = (let m = r .reserves in omega arith) in
-      ( let i = depth in let j = deep in omega arith
-      , omega arith
-      , subst (λ g. g < length (P .functions)) (sym (r .function)) (nth-within (P .functions) f (d .self) (d .known))
-      , subst (λ g. variablesAt P g + 32 ≤ l .reserved) (sym (r .function)) v
-      , last-word e )
+      let v : variablesAt P f + 32 ≤ l .reserved = (let m = r .reserves in omega arith) in (
+        let i = depth in let j = deep in omega arith,
+        omega arith,
+        subst (λ g. g < length (P .functions)) (sym (r .function)) (nth-within (P .functions) f (d .self) (d .known)),
+        subst (λ g. variablesAt P g + 32 ≤ l .reserved) (sym (r .function)) v,
+        last-word e,
+      )
 
   safe : (i : Instruction) (x : Shape) → effect P f p i (d .shape) ≡ good x → Reaches x (plans f) (successors p i) → Safe P i l
   safe Nop x e w = tt
@@ -278,34 +282,38 @@ fetched P l o = at (o .checked) (o .sound) (o .represented)
   where
     plans : Plans
     plans = o .plans
+
     ok : Accepted P plans
     ok = o .accepted
+
     at : (c : Conf) → Sound P plans c → Represented P (o .sizes) c l → Fetched P l
     at (conf (frame f p vs st) rest h) (d, callers) r =
         let x = good-plan P plans ok f (d .self) (d .known) .passes p (d .shape) (d .planned) in
         let self = is-function P plans ok f (d .self) (d .known) in
         let decoded : decodeAt (functionAt P (l .function) .code) (l .place) ≡ Some (x .instruction) =
-          subst (λ g. decodeAt (functionAt P g .code) (l .place) ≡ Some (x .instruction)) (sym (r .function))
-            (ap (decodeAt (functionAt P f .code)) (r .place) ∙ x .decoded) in
+        subst (λ g. decodeAt (functionAt P g .code) (l .place) ≡ Some (x .instruction)) (sym (r .function))
+        (ap (decodeAt (functionAt P f .code)) (r .place) ∙ x .decoded) in
         let whole = whole-inside (functionAt P (l .function) .code) (l .place) (x .instruction) decoded in
         let some = some-size (x .instruction) in
         let few : length (functionAt P (l .function) .code) ≤ 4096 =
-          subst (λ g. length (functionAt P g .code) ≤ 4096) (sym (r .function)) (subst (λ g. length (g .code) ≤ 4096) (sym self) (o .short f (d .self) (d .known))) in
-        record
-          { function = subst (λ g. g < length (P .functions)) (sym (r .function)) (nth-within (P .functions) f (d .self) (d .known))
-          ; instruction = x .instruction
-          ; decoded = decoded
-          ; inside = omega arith
-          ; whole = whole
-          ; short = few
-          ; bounds =
-              record
-                { few-slots = o .few-slots
-                ; few-frames = o .few-frames
-                ; place = omega arith
-                ; top = let a = flat-length f p vs st rest in let b = r .top in let c = taken-slots P plans ok f rest callers in let e = ap reserve (d .known) in
-                    let g = d .sized in let k = r .reserves in let n = low P plans ok (o .sizes) f p vs st rest h l d callers r in omega arith
-                ; callers = let a = r .callers in let b = r .free in let c = r .frame-count in omega arith
-                ; reserved = let a = r .reserves in let b = r .roomy in let c = r .slot-count in omega arith
-                ; storage = r .heap .sound }
-          ; safe = safe P plans ok (o .sizes) f p vs st rest h l d callers r (x .instruction) (x .result) (x .passed) (x .lands) }
+        subst (λ g. length (functionAt P g .code) ≤ 4096) (sym (r .function)) (subst (λ g. length (g .code) ≤ 4096) (sym self) (o .short f (d .self) (d .known))) in
+        record {
+          function = subst (λ g. g < length (P .functions)) (sym (r .function)) (nth-within (P .functions) f (d .self) (d .known));
+          instruction = x .instruction;
+          decoded = decoded;
+          inside = omega arith;
+          whole = whole;
+          short = few;
+          bounds =
+              record {
+                few-slots = o .few-slots;
+                few-frames = o .few-frames;
+                place = omega arith;
+                top = let a = flat-length f p vs st rest in let b = r .top in let c = taken-slots P plans ok f rest callers in let e = ap reserve (d .known) in
+                    let g = d .sized in let k = r .reserves in let n = low P plans ok (o .sizes) f p vs st rest h l d callers r in omega arith;
+                callers = let a = r .callers in let b = r .free in let c = r .frame-count in omega arith;
+                reserved = let a = r .reserves in let b = r .roomy in let c = r .slot-count in omega arith;
+                storage = r .heap .sound;
+              };
+          safe = safe P plans ok (o .sizes) f p vs st rest h l d callers r (x .instruction) (x .result) (x .passed) (x .lands);
+        }

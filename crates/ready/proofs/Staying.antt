@@ -27,7 +27,7 @@ nth-function P f lt = let g = nth-some (P .functions) f lt in g .1 ∙ ap Some (
 
 -- a step is its instruction's
 pub step-is : {S : Type 0} (P : Program) (host : Host S) (l : State) (s : S) (i : Instruction) → l .function < length (P .functions)
-  → decodeAt (functionAt P (l .function) .code) (l .place) ≡ Some i → step P host l s ≡ act P host i (l .place + sizeOf i) l s
+    → decodeAt (functionAt P (l .function) .code) (l .place) ≡ Some i → step P host l s ≡ act P host i (l .place + sizeOf i) l s
 step-is P host l s i lt e = ap (λ o. fetches P host o l s) (nth-function P (l .function) lt) ∙ ap (λ o. acted P host o l s) e
 
 -- ## One step
@@ -63,16 +63,17 @@ frames-are P sizes (conf (frame f p vs st) rest h) l r = r .frame-count
 pub stays-ready : {S : Type 0} (P : Program) (host : Host S) → Lawful host → (l m : State) (s t : S) → Ready P l → step P host l s ≡ goes m t → Ready P m
 stays-ready P host lawful l m s t o e =
     let x = same-goes (Represented P (o .sizes)) m t
-      (step-same P (o .plans) (o .accepted) (o .small) host lawful (o .sizes) (o .checked) l s (o .sound) (o .represented)) e in
+    (step-same P (o .plans) (o .accepted) (o .small) host lawful (o .sizes) (o .checked) l s (o .sound) (o .represented)) e in
     let fine = step-fine P (o .plans) (o .accepted) host lawful (o .sizes) (o .checked) s (o .sound) in
-    record
-      { plans = o .plans
-      ; accepted = o .accepted
-      ; small = o .small
-      ; short = o .short
-      ; sizes = o .sizes
-      ; checked = x .conf
-      ; sound = subst (Fine P (o .plans)) (x .same) fine
-      ; represented = x .related
-      ; few-slots = subst (λ n. n < 2 ^ 32) (slots-are P (o .sizes) (o .checked) l (o .represented) ∙ sym (slots-are P (o .sizes) (x .conf) m (x .related))) (o .few-slots)
-      ; few-frames = subst (λ n. n < 2 ^ 32) (frames-are P (o .sizes) (o .checked) l (o .represented) ∙ sym (frames-are P (o .sizes) (x .conf) m (x .related))) (o .few-frames) }
+    record {
+      plans = o .plans;
+      accepted = o .accepted;
+      small = o .small;
+      short = o .short;
+      sizes = o .sizes;
+      checked = x .conf;
+      sound = subst (Fine P (o .plans)) (x .same) fine;
+      represented = x .related;
+      few-slots = subst (λ n. n < 2 ^ 32) (slots-are P (o .sizes) (o .checked) l (o .represented) ∙ sym (slots-are P (o .sizes) (x .conf) m (x .related))) (o .few-slots);
+      few-frames = subst (λ n. n < 2 ^ 32) (frames-are P (o .sizes) (o .checked) l (o .represented) ∙ sym (frames-are P (o .sizes) (x .conf) m (x .related))) (o .few-frames);
+    }

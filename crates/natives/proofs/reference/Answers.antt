@@ -24,7 +24,7 @@ returns-then-left-eq0 c =
     let a : i < length ks = omega arith in
     let e : true ≡ sameKind (getD ks i Unknown) Ref = c .if-same-kind .ensures tt ∙ ap (λ k. sameKind k Ref) (c .native-argument-kind .ensures) in
     sym (c .loop-i .inv ∙ numbers-turn ks mem i (c .loop-i .left) a
-      ∙ ap₂ (λ t m. found t (getD mem i 0) m (drop (i + 1) ks) mem (i + 1)) (sym e) (c .if-left-eq0 .taken))
+    ∙ ap₂ (λ t m. found t (getD mem i 0) m (drop (i + 1) ks) mem (i + 1)) (sym e) (c .if-left-eq0 .taken))
 
 pub loop-i-again : need.loop-i-again
 loop-i-again c =
@@ -36,13 +36,14 @@ loop-i-again c =
     let turn = c .loop-i .inv ∙ numbers-turn ks mem i (c .loop-i .left) a in
     let on = λ (t : Bool) (m : ℕ). found t (getD mem i 0) m (drop (i + 1) ks) mem (i + 1) in
     elim (c .if-same-kind .came) [
-      then-same-kind·else-left-eq0 w ↦
-        let e : true ≡ sameKind (getD ks i Unknown) Ref = w .if-same-kind .ensures tt ∙ ap (λ k. sameKind k Ref) (c .native-argument-kind .ensures) in
-        let q : c .loop-i .left ≡ suc (c .if-same-kind .left) = omega (arith, w .left-is, w .if-left-eq0 .left) in
-        turn ∙ ap₂ on (sym e) q
-    | else-same-kind w ↦
-        let e : false ≡ sameKind (getD ks i Unknown) Ref = w .if-same-kind .ensures tt ∙ ap (λ k. sameKind k Ref) (c .native-argument-kind .ensures) in
-        turn ∙ ap₂ on (sym e) (sym (w .left-is)) ]
+      | then-same-kind·else-left-eq0 w ↦
+          let e : true ≡ sameKind (getD ks i Unknown) Ref = w .if-same-kind .ensures tt ∙ ap (λ k. sameKind k Ref) (c .native-argument-kind .ensures) in
+          let q : c .loop-i .left ≡ suc (c .if-same-kind .left) = omega (arith, w .left-is, w .if-left-eq0 .left) in
+          turn ∙ ap₂ on (sym e) q
+      | else-same-kind w ↦
+          let e : false ≡ sameKind (getD ks i Unknown) Ref = w .if-same-kind .ensures tt ∙ ap (λ k. sameKind k Ref) (c .native-argument-kind .ensures) in
+          turn ∙ ap₂ on (sym e) (sym (w .left-is))
+    ]
 
 pub returns : need.returns
 returns c =

@@ -19,7 +19,7 @@ loop-i-again c =
     let a : i < length ks = omega arith in
     let b : i < length (c .loop-i .told) = omega arith in
     arguments-turn ks mem (c .loop-i .told) i (c .argument .result) a b (c .loop-i .inv)
-      (c .argument .ensures ∙ ap (λ k. argumentOf k (getD mem i 0)) (c .native-argument-kind .ensures))
+    (c .argument .ensures ∙ ap (λ k. argumentOf k (getD mem i 0)) (c .native-argument-kind .ensures))
 
 pub returns : need.returns
 returns c =

@@ -22,7 +22,7 @@ view-requires-2 c κs =
     let a = ap₂ (λ s n. getD (entries s) (n - c .args .number) noFrame) (c .len-callers .ensures .same) (c .len-callers .ensures .value) in
     let b = ap (λ s. endOf (stateOf (with-frames m s)) (c .args .number - 1)) (c .at-caller .ensures .same ∙ c .len-callers .ensures .same) in
     let i = caller-inside (programOf (now (c .args .program))) l (c .args .number) (c .end-of-end .result) (c .at-caller .result) (c .pre .framed) some few
-      (c .at-caller .ensures .value noFrame ∙ a) (c .end-of-end .ensures .value ∙ b) in
+    (c .at-caller .ensures .value noFrame ∙ a) (c .end-of-end .ensures .value ∙ b) in
     record { fitting = c .pre .fitting; there = i .0; ordered = i .1 }
 
 pub returns : need.returns
@@ -35,5 +35,6 @@ returns c =
     let b = ap (λ s. endOf (stateOf (with-frames m s)) (c .args .number - 1)) (c .at-caller .ensures .same ∙ c .len-callers .ensures .same) in
     record {
       value = ap Some (c .view-2 .ensures) ∙ caller-shown (programOf (now (c .args .program))) l (c .args .number) (c .end-of-end .result) (c .at-caller .result) some few
-        (c .at-caller .ensures .value noFrame ∙ a) (c .end-of-end .ensures .value ∙ b);
-      same = search needs }
+          (c .at-caller .ensures .value noFrame ∙ a) (c .end-of-end .ensures .value ∙ b);
+      same = search needs;
+    }

@@ -14,5 +14,6 @@ returns c =
     let f = c .args .function in
     record {
       met = c .call .ensures .met (functionAt P f) (sym (c .argument-count-arguments .ensures .met)) (sym (c .variables-variables .ensures .met))
-        ∙ ap (called (stateOf (now (c .args .self))) (c .args .next) f) (sym (nth-function P f (c .pre .there)));
-      still = c .call .ensures .still }
+          ∙ ap (called (stateOf (now (c .args .self))) (c .args .next) f) (sym (nth-function P f (c .pre .there)));
+      still = c .call .ensures .still;
+    }

@@ -14,5 +14,6 @@ returns c =
     let l = stateOf (now (c .args .self)) in
     record {
       met = c .give .ensures .met (functionAt P (l .function)) (sym (c .variables-variables .ensures .met))
-        ∙ ap (returned l) (sym (nth-function P (l .function) (c .pre .safe .2)));
-      still = c .give .ensures .still }
+          ∙ ap (returned l) (sym (nth-function P (l .function) (c .pre .safe .2)));
+      still = c .give .ensures .still;
+    }

@@ -15,4 +15,4 @@ pub returns-in-Stopped : need.returns-in-Stopped
 returns-in-Stopped g c =
     let m = now (c .args .self) in
     run-refused (g .H·Host .make) m (g .H·Host .state (now (c .args .host))) (c .args .allowance) (λ n. stopped n (c .in-Stopped .field-0) (stateOf m))
-      (λ n. ap (λ x. statusAs x n (stateOf m)) (c .in-Stopped .is)) (λ n. tt) (λ n. refl) _ (c .pre)
+    (λ n. ap (λ x. statusAs x n (stateOf m)) (c .in-Stopped .is)) (λ n. tt) (λ n. refl) _ (c .pre)

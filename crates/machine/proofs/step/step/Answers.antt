@@ -33,7 +33,8 @@ fetch-instruction-requires g c κs =
       fitting = c .pre .fitting;
       there = subst (λ h. h < length (P .functions)) function (f .function);
       inside = subst₂ (λ h p. p < length (functionAt P h .code)) function place (f .inside);
-      decodes = subst₂ (λ h p. isSome (decodeAt (functionAt P h .code) p) ≡ true) function place (ap isSome (f .decoded)) }
+      decodes = subst₂ (λ h p. isSome (decodeAt (functionAt P h .code) p) ≡ true) function place (ap isSome (f .decoded));
+    }
 
 pub add-place : need.add-place
 add-place g c =
@@ -53,7 +54,7 @@ execute-requires g c κs =
     let i : Instruction = c .fetch-instruction .result in
     let f = fetched P l (c .pre .ready) in
     let decoded : decodeAt (functionAt P (l .function) .code) (l .place) ≡ Some i =
-      ap₂ (λ h p. decodeAt (functionAt P h .code) p) (sym (c .function .ensures)) (sym (c .place-place .ensures)) ∙ c .fetch-instruction .ensures in
+    ap₂ (λ h p. decodeAt (functionAt P h .code) p) (sym (c .function .ensures)) (sym (c .place-place .ensures)) ∙ c .fetch-instruction .ensures in
     let same : f .instruction ≡ i = some-same (sym (f .decoded) ∙ decoded) in
     let next : l .place + sizeOf i ≡ c .place-place .result + c .size .result = ap₂ (λ p n. p + n) (sym (c .place-place .ensures)) (sym (c .size .ensures .exact)) in
     record {
@@ -61,7 +62,8 @@ execute-requires g c κs =
       bounds = f .bounds;
       safe = subst (λ j. Safe P j l) same (f .safe);
       whole = subst Whole (step-is P (g .H·Host .make) l s i (f .function) decoded ∙ ap (λ q. act P (g .H·Host .make) i q l s) next)
-        (step-whole P (g .H·Host .make) (g .H·Host .lawful) l s (c .pre .ready)) }
+          (step-whole P (g .H·Host .make) (g .H·Host .lawful) l s (c .pre .ready));
+    }
 
 pub returns : need.returns
 returns g c =
@@ -71,9 +73,10 @@ returns g c =
     let i : Instruction = c .fetch-instruction .result in
     let f = fetched P l (c .pre .ready) in
     let decoded : decodeAt (functionAt P (l .function) .code) (l .place) ≡ Some i =
-      ap₂ (λ h p. decodeAt (functionAt P h .code) p) (sym (c .function .ensures)) (sym (c .place-place .ensures)) ∙ c .fetch-instruction .ensures in
+    ap₂ (λ h p. decodeAt (functionAt P h .code) p) (sym (c .function .ensures)) (sym (c .place-place .ensures)) ∙ c .fetch-instruction .ensures in
     let next : l .place + sizeOf i ≡ c .place-place .result + c .size .result = ap₂ (λ p n. p + n) (sym (c .place-place .ensures)) (sym (c .size .ensures .exact)) in
     record {
       met = c .execute .ensures .met
-        ∙ sym (step-is P (g .H·Host .make) l s i (f .function) decoded ∙ ap (λ q. act P (g .H·Host .make) i q l s) next);
-      still = c .execute .ensures .still }
+          ∙ sym (step-is P (g .H·Host .make) l s i (f .function) decoded ∙ ap (λ q. act P (g .H·Host .make) i q l s) next);
+      still = c .execute .ensures .still;
+    }

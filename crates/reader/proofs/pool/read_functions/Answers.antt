@@ -3,10 +3,11 @@ use mathlib.Core.List.{map}
 use native.Mathlib.Omega.{arith}
 use lib.ListN.{length-set, take}
 use Rattle.std.proofs.shelf.Results.{err-from-errBy}
+use Rattle.std.specs.shelf.Lists.{All}
 use Rattle.reader.specs.Layout.{functionAt, codeBytes}
-use Rattle.reader.specs.View.{functionEntryOf, FunctionsFit}
+use Rattle.reader.specs.View.{functionEntryOf, FunctionEnds, FunctionsFit}
 use Rattle.reader.proofs.Repeating.{series-more, series-fault, series-end}
-use Rattle.reader.proofs.Turns.{filled-more, functions-more, code-more}
+use Rattle.reader.proofs.Turns.{filled-more, functions-more, code-more, ends-more}
 use Rattle.reader.proofs.pool.read_functions.Needs as need
 
 pub returns-in-Break-function : need.returns-in-Break-function
@@ -20,6 +21,7 @@ returns-in-Break-function c =
           (ap (functionAt (c .args .bytes .now) (c .loop-i .i) (c .loop-i .after)) (c .loop-i .inv .3) ∙ c .in-Break-function .ensures tt .met);
       room = tt;
       fit = tt;
+      ends = tt;
       sum = tt;
     })
 
@@ -34,6 +36,7 @@ loop-i-again c = (
       (c .in-Continue-function .ensures tt .fits) (c .in-Continue-function .ensures tt .few) (c .in-Continue-function .ensures tt .main),
   code-more (c .args .bytes .now) (c .loop-i .list) (c .loop-i .i) _ _ (omega (arith, c .loop-i .inv .4)) (c .loop-i .inv .3) (c .in-Continue-function .ensures tt .fits),
   simp length-set (c .loop-i .inv .4),
+  ends-more (c .loop-i .list) (c .loop-i .i) _ (c .loop-i .after) (omega (arith, c .loop-i .inv .4)) (c .loop-i .inv .5) (c .in-Continue-function .ensures tt .onward),
 )
 
 pub returns : need.returns
@@ -46,5 +49,6 @@ returns c =
           (ap (λ n. map (functionEntryOf (c .args .bytes .now)) (take n (c .loop-i .list))) e);
       room = c .loop-i .inv .1;
       fit = subst (λ n. FunctionsFit (c .args .bytes .now) (take n (c .loop-i .list))) e (c .loop-i .inv .2);
+      ends = subst (λ n. All (FunctionEnds (c .loop-i .after)) (take n (c .loop-i .list))) e (c .loop-i .inv .5);
       sum = subst (λ n. codeBytes (map (functionEntryOf (c .args .bytes .now)) (take n (c .loop-i .list))) ≡ c .loop-i .code-size) e (c .loop-i .inv .3);
     }

@@ -12,7 +12,7 @@ use Rattle.bytecode.specs.Program.{Signature}
 use Rattle.bytecode.specs.declared.kind.Kind.the-variants.{Word}
 use Rattle.reader.specs.Fields.{byte}
 use Rattle.reader.specs.Layout.{Read, recordAt, functionArguments, kindOf}
-use Rattle.reader.specs.View.{functionEntryOf, functionSignatureOf, noFunctionRecord, FunctionFits, FunctionLettered}
+use Rattle.reader.specs.View.{functionEntryOf, functionSignatureOf, noFunctionRecord, FunctionFits, FunctionBehind, FunctionLettered}
 use Rattle.reader.specs.declared.package.Function.{Function}
 use Rattle.reader.proofs.Repeating.{series-more, series-fault, series-end}
 use Rattle.reader.proofs.Turns.{filled-more, filled-all, count-at, kept-map, kept-all, all-at, first-set}
@@ -44,6 +44,7 @@ returns-in-Break-kinds c =
       room = tt;
       kept = c .loop-i .inv .2;
       fit = c .loop-i .inv .3;
+      behind = c .loop-i .inv .7;
       lettered = tt;
       gives = tt;
     })
@@ -64,6 +65,9 @@ loop-i-again c =
       (λ _. first-set (λ f. kindOf (byte (c .args .bytes .now) (f .kinds)) ≡ Word) (c .loop-i .list) (c .loop-i .i) _ noFunctionRecord k (c .loop-i .inv .5)
           (λ z. c .in-Continue-kinds .ensures tt .gives (eq-eqb (c .loop-i .i) 0 z))),
       simp length-set (c .loop-i .inv .6),
+      kept-all (FunctionBehind (c .args .bytes .now)) (c .loop-i .list) (c .args .count) (c .loop-i .i) _ (c .loop-i-test .taken)
+          (all-at (FunctionBehind (c .args .bytes .now)) (c .loop-i .list) (c .args .count) (c .loop-i .i) noFunctionRecord (omega (arith, c .loop-i .inv .6)) (c .loop-i-test .taken) (c .loop-i .inv .7))
+          (c .loop-i .inv .7),
     )
 
 pub returns : need.returns
@@ -77,6 +81,7 @@ returns c =
       room = c .loop-i .inv .1;
       kept = c .loop-i .inv .2;
       fit = c .loop-i .inv .3;
+      behind = c .loop-i .inv .7;
       lettered = subst (λ n. All (FunctionLettered (c .args .bytes .now)) (take n (c .loop-i .list))) e (c .loop-i .inv .4);
       gives = λ z. c .loop-i .inv .5 (omega arith);
     }

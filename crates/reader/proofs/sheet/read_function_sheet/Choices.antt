@@ -7,7 +7,7 @@ use Rattle.std.specs.shelf.Lists.{All}
 use Rattle.bytecode.specs.declared.kind.Kind.the-variants.{Word}
 use Rattle.reader.specs.Fields.{byte}
 use Rattle.reader.specs.Layout.{recordAt, functionSheetAt, functionArguments, kindOf}
-use Rattle.reader.specs.View.{functionEntryOf, functionSignatureOf, noFunctionRecord, FunctionFits, FunctionLettered}
+use Rattle.reader.specs.View.{functionEntryOf, functionSignatureOf, noFunctionRecord, FunctionFits, FunctionBehind, FunctionLettered}
 use Rattle.reader.proofs.Repeating.{onwards}
 use Rattle.reader.proofs.sheet.read_function_sheet.Given as given
 
@@ -21,4 +21,5 @@ Inv-loop-i l =
     All (FunctionFits (l .bytes)) (take (l .count) (l .list)) ×
     All (FunctionLettered (l .bytes)) (take (l .i) (l .list)) ×
     (0 < l .i → kindOf (byte (l .bytes) (getD (l .list) 0 noFunctionRecord .kinds)) ≡ Word) ×
-    (length (l .list) ≡ 64)
+    (length (l .list) ≡ 64) ×
+    All (FunctionBehind (l .bytes)) (take (l .count) (l .list))

@@ -15,6 +15,7 @@ returns c =
           functions-known (c .args .bytes .now) _ _ (c .args .function-count) (c .pre .some) (omega arith) (c .pre .functionsFit)
           (c .in-Continue-native-sheet .ensures tt .kept) (c .in-Continue-native-sheet .ensures tt .fit)
           (c .in-Continue-native-sheet .ensures tt .lettered) (c .in-Continue-native-sheet .ensures tt .gives (c .pre .some));
+      behind = c .in-Continue-native-sheet .ensures tt .behind;
       nativesKnown = record { each = c .in-Continue-end .ensures tt .fit; lettered = c .in-Continue-end .ensures tt .lettered };
       sum = code-same (c .args .bytes .now) _ ∙ ap codeBytes (c .in-Continue-native-sheet .ensures tt .kept);
     }

@@ -1,7 +1,7 @@
 use mathlib.Core.Path.{_∙_, ap}
 use native.Mathlib.Omega.{arith}
 use lib.ListN.{length}
-use Rattle.reader.specs.View.{functionOf, noFunction, noFunctionRecord, FunctionFits, FunctionLettered}
+use Rattle.reader.specs.View.{functionOf, noFunction, noFunctionRecord, FunctionFits, FunctionBehind, FunctionLettered}
 use Rattle.reader.proofs.Places.{front-at, kinds-length}
 use Rattle.reader.proofs.Turns.{all-at}
 use Rattle.reader.proofs.package.Package.function_at.Needs as need
@@ -17,5 +17,6 @@ returns c =
       met = met;
       fits = all-at (FunctionFits bs) fs n (c .args .function) noFunctionRecord (omega arith) (c .pre .inside) (c .pre .fitting .functions .each);
       lettered = lettered;
+      behind = all-at (FunctionBehind bs) fs n (c .args .function) noFunctionRecord (omega arith) (c .pre .inside) (c .pre .fitting .behind);
       takes = ap (λ f. length (f .signature .arguments)) met ∙ kinds-length bs _ _ lettered;
     }
