@@ -2,7 +2,8 @@
 use std::alloc::Global;
 use std::env::Args;
 
-pub const USAGE: &str = "usage: console SLOTS FRAMES CELLS BLOCKS drive|line:BYTES run:ALLOWANCE|look:FRAME..";
+pub const USAGE: &str =
+    "usage: console SLOTS FRAMES CELLS BLOCKS drive|line:BYTES run:ALLOWANCE|look:FRAME..";
 
 /// Which host serves the program; a line host has a buffer of so many bytes.
 #[derive(Clone, Copy)]

@@ -62,13 +62,32 @@ fn show_line(rt: &LibcRuntime, line: &Line<'_>) -> io::Result<()> {
 fn start(rt: &LibcRuntime, program: Program<'_>, asked: &Asked) -> io::Result<()>
     requires { ⌜ Checked program ⌝ }
 {
-    if let Err(_) = allows(&program, asked.slots, asked.frames, asked.cells, asked.records) {
+    if let Err(_) = allows(
+        &program,
+        asked.slots,
+        asked.frames,
+        asked.cells,
+        asked.records,
+    ) {
         return refused(rt, (30, 0, 0));
     }
     let mut slots = vec![in rt.alloc(); 0u64; asked.slots]?;
-    let mut frames = vec![in rt.alloc(); FrameRecord { function: 0, place: 0, base: 0 }; asked.frames]?;
-    let mut cells = vec![in rt.alloc(); Cell { bytes: [0; 8], mark: false }; asked.cells]?;
-    let mut records = vec![in rt.alloc(); BlockRecord { start: 0, from: 0, end: 0, count: 0, size: 0 }; asked.records]?;
+    let mut frames = vec![in rt.alloc(); FrameRecord {
+        function: 0,
+        place: 0,
+        base: 0
+    }; asked.frames]?;
+    let mut cells = vec![in rt.alloc(); Cell {
+        bytes: [0; 8],
+        mark: false
+    }; asked.cells]?;
+    let mut records = vec![in rt.alloc(); BlockRecord {
+        start: 0,
+        from: 0,
+        end: 0,
+        count: 0,
+        size: 0
+    }; asked.records]?;
     let mut machine = Machine::start(program, &mut slots, &mut frames, &mut cells, &mut records);
     println!(rt, "started")?;
     match asked.host {

@@ -12,7 +12,12 @@ fn show(rt: &LibcRuntime, outcome: Outcome) -> io::Result<()> {
     match outcome {
         Outcome::Continues { steps } => println!(rt, "continues {steps}"),
         Outcome::Ended { word, steps } => println!(rt, "ended {} {steps}", word.cast_signed()),
-        Outcome::Stopped { stop, function, place, steps } => {
+        Outcome::Stopped {
+            stop,
+            function,
+            place,
+            steps,
+        } => {
             let number = stop_number(stop);
             let code = stop_code(stop);
             println!(rt, "stopped {number} {code} {function} {place} {steps}")
@@ -21,7 +26,12 @@ fn show(rt: &LibcRuntime, outcome: Outcome) -> io::Result<()> {
 }
 
 // Makes a call.
-fn answer<H: Host>(rt: &LibcRuntime, machine: &mut Machine<'_, '_>, host: &mut H, request: Request) -> io::Result<()>
+fn answer<H: Host>(
+    rt: &LibcRuntime,
+    machine: &mut Machine<'_, '_>,
+    host: &mut H,
+    request: Request,
+) -> io::Result<()>
     requires { ⌜ Intact (now machine) ⌝ }
     ensures { λ _. ⌜ Intact (now (machine .exit)) ⌝ }
 {
@@ -38,7 +48,12 @@ fn answer<H: Host>(rt: &LibcRuntime, machine: &mut Machine<'_, '_>, host: &mut H
 }
 
 /// Makes the calls in their order.
-pub fn play<H: Host>(rt: &LibcRuntime, machine: &mut Machine<'_, '_>, host: &mut H, requests: &[Request]) -> io::Result<()>
+pub fn play<H: Host>(
+    rt: &LibcRuntime,
+    machine: &mut Machine<'_, '_>,
+    host: &mut H,
+    requests: &[Request],
+) -> io::Result<()>
     requires { ⌜ Intact (now machine) ⌝ }
 {
     for request in requests {

@@ -45,7 +45,7 @@ module _ {S : Type 0} (host : Host S) (first : Machine) (s : S) where
   steps = step (programIn first) host
 
   from-answer : (k : ℕ) (r : Result Outcome Over) (m : Machine) (t : S) → ((n : ℕ) → response (told r) t ≡ ran (runtimeMachine (programIn first)) host s k (statusOf n first))
-    → ((n : ℕ) → served (statusOf (n + usedOf r) m) t ≡ iterate steps k (statusOf n first) s) → m .program ≡ first .program → Intact m → Ran host first s k r m t
+      → ((n : ℕ) → served (statusOf (n + usedOf r) m) t ≡ iterate steps k (statusOf n first) s) → m .program ≡ first .program → Intact m → Ran host first s k r m t
   from-answer k r m t answer after same intact =
       record { answer = answer; refused = λ n. told-refusal r ∙ ap (λ h. refusal (h .answer)) (answer n); after = after; same = same; intact = intact }
 
@@ -94,19 +94,19 @@ module _ {S : Type 0} (host : Host S) (first : Machine) (s : S) where
       → o .program ≡ m .program → stateOf o ≡ stateOf m → Ran host first s a r o u
   finished is k a m o t u y r g h answer used status p q =
       from-answer a r o u
-        (λ n. sym (ap (ran (runtimeMachine (programIn first)) host s a) (begun n is)
-          ∙ ap (λ x. response (tells (runtimeMachine {S = S} (programIn first)) n (x .machine)) (x .host)) (h n) ∙ ap (λ x. response x u) (sym (answer n))))
-        (λ n. ap (λ x. served x u) (ap (λ j. statusOf (n + j) o) used ∙ status (n + (k + 1))) ∙ sym (ap (λ x. iterate steps a x s) (begun n is) ∙ h n))
-        (p ∙ g .same)
-        (intact-as m o p q (g .intact))
+      (λ n. sym (ap (ran (runtimeMachine (programIn first)) host s a) (begun n is)
+      ∙ ap (λ x. response (tells (runtimeMachine {S = S} (programIn first)) n (x .machine)) (x .host)) (h n) ∙ ap (λ x. response x u) (sym (answer n))))
+      (λ n. ap (λ x. served x u) (ap (λ j. statusOf (n + j) o) used ∙ status (n + (k + 1))) ∙ sym (ap (λ x. iterate steps a x s) (begun n is) ∙ h n))
+      (p ∙ g .same)
+      (intact-as m o p q (g .intact))
 
   pub run-ends : first .condition ≡ Condition.Live → (k a w : ℕ) (m o : Machine) (t u : S) → Going host first s k m t → k < a
       → step (programIn m) host (stateOf m) t ≡ Runs.Next.ends w u → o .program ≡ m .program → stateOf o ≡ stateOf m → o .condition ≡ Condition.Ended w
       → Ran host first s a (Ok (Outcome.Ended w (k + 1))) o u
   run-ends is k a w m o t u g lt e p q c =
       finished is k a m o t u (λ n. ended n w (stateOf m)) (Ok (Outcome.Ended w (k + 1))) g
-        (over-next k a m t u (λ n. ended n w (stateOf m)) (λ n. tt) g lt (λ n. ap (after (n + k) (stateOf m)) (sym (step-same-program m t (g .same)) ∙ e)))
-        (λ n. ap (Runs.Answer.ends w) (let z : k + 1 ≡ (n + (k + 1)) - n = omega arith in z)) refl (λ n. ap₂ (λ x y. statusAs x n y) c q) p q
+      (over-next k a m t u (λ n. ended n w (stateOf m)) (λ n. tt) g lt (λ n. ap (after (n + k) (stateOf m)) (sym (step-same-program m t (g .same)) ∙ e)))
+      (λ n. ap (Runs.Answer.ends w) (let z : k + 1 ≡ (n + (k + 1)) - n = omega arith in z)) refl (λ n. ap₂ (λ x y. statusAs x n y) c q) p q
 
   pub run-stops : first .condition ≡ Condition.Live → (k a : ℕ) (b : Stop) (f l : ℕ) (m o : Machine) (t u : S) → Going host first s k m t → k < a
       → step (programIn m) host (stateOf m) t ≡ Runs.Next.stops b u → o .program ≡ m .program → stateOf o ≡ stateOf m → o .condition ≡ Condition.Stopped b
@@ -121,16 +121,16 @@ module _ {S : Type 0} (host : Host S) (first : Machine) (s : S) where
   pub run-continues : first .condition ≡ Condition.Live → (a : ℕ) (m : Machine) (t : S) → Going host first s a m t → Ran host first s a (Ok (Outcome.Continues a)) m t
   run-continues is a m t g =
       from-answer a (Ok (Outcome.Continues a)) m t
-        (λ n. sym (ap (ran (runtimeMachine (programIn first)) host s a) (begun n is)
-          ∙ ap (λ x. response (tells (runtimeMachine {S = S} (programIn first)) n (x .machine)) (x .host)) (g .there n)
-          ∙ ap (λ j. response (Runs.Answer.continues j) t) (let q : (n + a) - n ≡ a = omega arith in q)))
-        (λ n. ap (λ x. served (statusAs x (n + a) (stateOf m)) t) (g .condition ∙ is) ∙ sym (ap (λ x. iterate steps a x s) (begun n is) ∙ g .there n))
-        (g .same)
-        (g .intact)
+      (λ n. sym (ap (ran (runtimeMachine (programIn first)) host s a) (begun n is)
+      ∙ ap (λ x. response (tells (runtimeMachine {S = S} (programIn first)) n (x .machine)) (x .host)) (g .there n)
+      ∙ ap (λ j. response (Runs.Answer.continues j) t) (let q : (n + a) - n ≡ a = omega arith in q)))
+      (λ n. ap (λ x. served (statusAs x (n + a) (stateOf m)) t) (g .condition ∙ is) ∙ sym (ap (λ x. iterate steps a x s) (begun n is) ∙ g .there n))
+      (g .same)
+      (g .intact)
 
   -- a machine that is over is refused, and stays as it is
   pub run-refused : (a : ℕ) (y : ℕ → Status State) → ((n : ℕ) → statusOf n first ≡ y n) → ((n : ℕ) → IsOver (y n))
-    → ((n : ℕ) → ran (runtimeMachine (programIn first)) host s a (y n) ≡ response over s) → (e : Over) → Intact first → Ran host first s a (Err e) first s
+      → ((n : ℕ) → ran (runtimeMachine (programIn first)) host s a (y n) ≡ response over s) → (e : Over) → Intact first → Ran host first s a (Err e) first s
   run-refused a y status o refuses e i =
       from-answer a (Err e) first s
       (λ n. sym (ap (ran (runtimeMachine (programIn first)) host s a) (status n) ∙ refuses n))

@@ -80,21 +80,22 @@ pub main-reserves : (p : Package) → Fitting p → reserve (nth (programOf p .f
 main-reserves p fit = ap reserve (nth-function (programOf p) 0 (let a = fit .someFunctions in let b = fit .functionCount in omega arith))
 
 pub start-ready : (p : Program) → Checked p → (slots : List ℕ) (frames : List FrameRecord) (cells : List Cell) (records : List BlockRecord)
-  → Allowed (meaningOf p) (sizesOf (lent slots frames cells records))
-  → Ready (meaningOf p) (begins (meaningOf p) slots frames (lent slots frames cells records .storage))
+    → Allowed (meaningOf p) (sizesOf (lent slots frames cells records))
+    → Ready (meaningOf p) (begins (meaningOf p) slots frames (lent slots frames cells records .storage))
 start-ready p h slots frames cells records fits =
     let n = main-reserves (p .contents) (h .fitting) in
     let plans : Plans = λ f. planOf (getD (h .tables) f []) in
     begins-ready (meaningOf p) plans (accepted p h plans (swept p h)) slots frames (lent slots frames cells records .storage)
-      (small (p .contents) (h .fitting)) (short-codes (p .contents) (h .fitting))
-      refl refl (let z = fits .cells in omega arith) (let z = fits .records in omega arith) (let z = fits .main in omega arith) (let z = fits .slots in omega arith)
-      (fits .some) (let z = fits .frames in omega arith)
+    (small (p .contents) (h .fitting)) (short-codes (p .contents) (h .fitting))
+    refl refl (let z = fits .cells in omega arith) (let z = fits .records in omega arith) (let z = fits .main in omega arith) (let z = fits .slots in omega arith)
+    (fits .some) (let z = fits .frames in omega arith)
 
 pub start-enough : (p : Program) → Checked p → (slots : List ℕ) (frames : List FrameRecord) (cells : List Cell) (records : List BlockRecord)
-  → Allowed (meaningOf p) (sizesOf (lent slots frames cells records)) → Enough (meaningOf p) (lent slots frames cells records)
+    → Allowed (meaningOf p) (sizesOf (lent slots frames cells records)) → Enough (meaningOf p) (lent slots frames cells records)
 start-enough p h slots frames cells records fits =
     let n = main-reserves (p .contents) (h .fitting) in
-    record
-      { unused = record { used = refl; count = refl; cells = (let z = fits .cells in omega arith); records = (let z = fits .records in omega arith) }
-      ; frames = fits .some
-      ; slots = let z = fits .main in omega arith }
+    record {
+      unused = record { used = refl; count = refl; cells = (let z = fits .cells in omega arith); records = (let z = fits .records in omega arith) };
+      frames = fits .some;
+      slots = let z = fits .main in omega arith;
+    }

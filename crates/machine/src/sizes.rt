@@ -19,7 +19,13 @@ const CELL_LIMIT: usize = 4096;
 const RECORD_LIMIT: usize = 1024;
 
 /// Whether a program may be started with so many slots, frames, cells and block records.
-pub fn allows(program: &Program<'_>, slots: usize, frames: usize, cells: usize, records: usize) -> Result<(), SizesRefused>
+pub fn allows(
+    program: &Program<'_>,
+    slots: usize,
+    frames: usize,
+    cells: usize,
+    records: usize,
+) -> Result<(), SizesRefused>
     requires { ⌜ Checked (now program) ⌝ }
     ensures { λ r. ⌜ faultIn sizesFault r ≡ cond (sizesAllowed (meaningOf (now (program .entry))) (record { slots = slots; frames = frames; cells = cells; records = records })) None (Some (30, 0, 0)) ⌝ }
 {

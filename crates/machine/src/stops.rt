@@ -1,7 +1,6 @@
 // The numbers of stops.
 ghost use mathlib.Core.Path.{_≡_};
 ghost use Rattle.bytecode.specs.Stops.{stopNumber, stopCode};
-
 use bytecode::stop::Stop;
 
 /// The number of a stop, from 1 to 12.

@@ -10,11 +10,11 @@ ghost use Rattle.checked.specs.Machine.{sameKind, sameKinds, agrees as agreeing
 ghost use Rattle.runtime.specs.Runtime.{argumentOf, argumentsFrom, numbersFrom, textIn};
 ghost use Rattle.natives.specs.Calls.{callWith};
 use bytecode::kind::Kind;
+use host::Host;
 use host::call::Argument;
 use host::call::Call;
 use host::call::Reply;
 use host::call::Signature;
-use host::Host;
 use host::text::Text;
 use host::text::find_text;
 use host::text::no_text;

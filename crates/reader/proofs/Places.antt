@@ -39,20 +39,21 @@ code-length bs f g e fits = ap (λ h. length (h .code)) e ∙ bytes-length bs (f
 
 -- the two bytes after a place of a code are inside the package
 pub code-behind : (bs : List ℕ) (f : Function) (g : program.Function) (place : ℕ) → g ≡ functionOf bs f → FunctionFits bs f → FunctionBehind bs f
-  → place < length (g .code) → f .code + place + 2 < length bs
+    → place < length (g .code) → f .code + place + 2 < length bs
 code-behind bs f g place e fits behind l = let n = code-length bs f g e fits in omega arith
 
 code-byte : (bs : List ℕ) (f : Function) (g : program.Function) (place : ℕ) → g ≡ functionOf bs f → FunctionFits bs f → place < length (g .code)
-  → byte bs (f .code + place) ≡ byte (g .code) place
+    → byte bs (f .code + place) ≡ byte (g .code) place
 code-byte bs f g place e fits l =
     let n = code-length bs f g e fits in
     let k : place < f .size = omega arith in
     sym (getD-drop (f .code) bs place 0) ∙ sym (getD-take (f .size) (drop (f .code) bs) place 0 k) ∙ ap (λ h. byte (h .code) place) (sym e)
 
 pub code-bytes-at : (bs : List ℕ) (f : Function) (g : program.Function) (place : ℕ) → g ≡ functionOf bs f → FunctionFits bs f → place < length (g .code)
-  → BytesAt (g .code) place (byte bs (f .code + place)) (byte bs (f .code + place + 1)) (byte bs (f .code + place + 2))
+    → BytesAt (g .code) place (byte bs (f .code + place)) (byte bs (f .code + place + 1)) (byte bs (f .code + place + 2))
 code-bytes-at bs f g place e fits l =
     record {
       here = code-byte bs f g place e fits l;
       next = λ k. ap (byte bs) (let q : f .code + place + 1 ≡ f .code + (place + 1) = omega arith in q) ∙ code-byte bs f g (place + 1) e fits k;
-      last = λ k. ap (byte bs) (let q : f .code + place + 2 ≡ f .code + (place + 2) = omega arith in q) ∙ code-byte bs f g (place + 2) e fits k }
+      last = λ k. ap (byte bs) (let q : f .code + place + 2 ≡ f .code + (place + 2) = omega arith in q) ∙ code-byte bs f g (place + 2) e fits k;
+    }

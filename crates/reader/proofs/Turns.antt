@@ -118,7 +118,7 @@ all-weaker P Q (x ∷ xs) w h = (w x (h .0), all-weaker P Q xs w (h .1))
 
 -- one more function, which begins where the others have ended
 pub ends-more : (fs : List Function) (i : ℕ) (f : Function) (p : ℕ) → i < length fs → All (FunctionEnds p) (take i fs) → p ≤ f .code
-  → All (FunctionEnds (f .code + f .size)) (take (i + 1) (set fs i f))
+    → All (FunctionEnds (f .code + f .size)) (take (i + 1) (set fs i f))
 ends-more fs i f p l h k =
     let here : f .code + f .size ≤ f .code + f .size = omega arith in
     filled-all (FunctionEnds (f .code + f .size)) fs i f l (all-weaker (FunctionEnds p) (FunctionEnds (f .code + f .size)) (take i fs) (λ g e. omega arith) h) here

@@ -14,7 +14,8 @@ read-sheet-requires c κs =
       fewNatives = omega arith;
       functionsFit = c .in-Continue-pool .ensures tt .fit;
       behind = ends-behind (c .args .bytes .now) _ _ (c .in-Continue-native-count .ensures tt .room) (c .in-Continue-pool .ensures tt .ends);
-      nativesFit = c .in-Continue-sheet .ensures tt .fit }
+      nativesFit = c .in-Continue-sheet .ensures tt .fit;
+    }
 
 pub returns : need.returns
 returns c =

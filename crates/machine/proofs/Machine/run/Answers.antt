@@ -9,7 +9,7 @@ pub returns-in-Ended : need.returns-in-Ended
 returns-in-Ended g c =
     let m = now (c .args .self) in
     run-refused (g .H·Host .make) m (g .H·Host .state (now (c .args .host))) (c .args .allowance) (λ n. ended n (c .in-Ended .field-0) (stateOf m))
-      (λ n. ap (λ x. statusAs x n (stateOf m)) (c .in-Ended .is)) (λ n. tt) (λ n. refl) _ (c .pre)
+    (λ n. ap (λ x. statusAs x n (stateOf m)) (c .in-Ended .is)) (λ n. tt) (λ n. refl) _ (c .pre)
 
 pub returns-in-Stopped : need.returns-in-Stopped
 returns-in-Stopped g c =

@@ -38,13 +38,15 @@ returns c =
     let fits = allowed-sizes (meaningOf p) (sizesOf (lent slots frames cells records)) (c .pre .allowed) in
     let b : c .variables-variables .result ≡ variablesAt (meaningOf p) 0 = c .variables-variables .ensures .met ∙ ap (λ x. variablesAt (programOf x) 0) (c .contents .ensures) in
     let e : stateOf (c .new .result) ≡ begins (meaningOf p) slots frames (lent slots frames cells records .storage) =
-      c .new .ensures ∙ ap (λ v. beginning v slots frames cells records) b in
+    c .new .ensures ∙ ap (λ v. beginning v slots frames cells records) b in
     record {
       begun = ap (live 0) e;
       program = c .contents .ensures;
       intact = record {
         fitting = subst Fitting (sym (c .contents .ensures)) (c .pre .checked .fitting);
-        ready = subst₂ (λ x l. Ready (programOf x) l) (sym (c .contents .ensures)) (sym e) (start-ready p (c .pre .checked) slots frames cells records fits) };
+        ready = subst₂ (λ x l. Ready (programOf x) l) (sym (c .contents .ensures)) (sym e) (start-ready p (c .pre .checked) slots frames cells records fits);
+      };
       law = λ plans fullest.
-        law-stands (meaningOf p) plans (accepted p (c .pre .checked) plans fullest) (small (p .contents) (c .pre .checked .fitting)) _ (lent slots frames cells records)
-          (start-enough p (c .pre .checked) slots frames cells records fits) }
+          law-stands (meaningOf p) plans (accepted p (c .pre .checked) plans fullest) (small (p .contents) (c .pre .checked .fitting)) _ (lent slots frames cells records)
+          (start-enough p (c .pre .checked) slots frames cells records fits);
+    }

@@ -35,4 +35,4 @@ returns c =
     let records : c .args .records ≤ 1024 = omega arith in
     let main : reserve (nth (meaningOf p .functions) 0) ≤ c .args .slots = omega arith in
     sym (ap (λ t. cond {A = Option Fault} t None (Some (30, 0, 0)))
-      (sizes-allowed (meaningOf p) sizes (record { slots = slots; some = some; frames = frames; cells = cells; records = records; main = main })))
+    (sizes-allowed (meaningOf p) sizes (record { slots = slots; some = some; frames = frames; cells = cells; records = records; main = main })))
