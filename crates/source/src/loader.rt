@@ -50,7 +50,7 @@ pub fn load<S: Source>(
     source: &mut S,
     buffer: &mut [u8],
 ) -> Result<usize, LoadFault<S::Place, S::Fault>>
-    ensures { loaded (rest source.old) buffer.old ≡ record { answer = result; memory = buffer.new; left = rest source.new } }
+    ensures { loaded (S.rest source.old) buffer.old ≡ record { answer = result; memory = buffer.new; left = S.rest source.new } }
 {
     let room = buffer.len().min(LIMIT);
     let mut guard = Guard {

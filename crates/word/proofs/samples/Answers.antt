@@ -17,12 +17,12 @@ stopped (Err t) s e = cc
 
 pub returns : goal.returns
 returns c =
-    let a : c.compute.result ≡ Ok (wrap (negsuc 2)) = gave c.compute.result _ (c.compute.ensures ∙ ap (λ x. compute Div x 2) c.sign-extend.ensures) in
-    let b : c.compute-2.result ≡ Ok (wrap (negsuc 0)) = gave c.compute-2.result _ (c.compute-2.ensures ∙ ap (λ x. compute Rem x 2) c.sign-extend-2.ensures) in
-    let d : c.compute-3.result ≡ Err Divide = stopped c.compute-3.result _ (c.compute-3.ensures ∙ ap (compute Div (2 ^ 31)) c.sign-extend-3.ensures) in
-    let e : c.compute-4.result ≡ Err Divide = stopped c.compute-4.result _ (c.compute-4.ensures ∙ ap (compute Rem (2 ^ 31)) c.sign-extend-4.ensures) in
+    let a : c.compute.result ≡ Ok (wrap (negsuc 2)) = gave c.compute.result _ (c.compute.ensures ∙ ap (λ x. compute Div x 2) c.sign_extend.ensures) in
+    let b : c.compute-2.result ≡ Ok (wrap (negsuc 0)) = gave c.compute-2.result _ (c.compute-2.ensures ∙ ap (λ x. compute Rem x 2) c.sign_extend-2.ensures) in
+    let d : c.compute-3.result ≡ Err Divide = stopped c.compute-3.result _ (c.compute-3.ensures ∙ ap (compute Div (2 ^ 31)) c.sign_extend-3.ensures) in
+    let e : c.compute-4.result ≡ Err Divide = stopped c.compute-4.result _ (c.compute-4.ensures ∙ ap (compute Rem (2 ^ 31)) c.sign_extend-4.ensures) in
     let f : c.compute-5.result ≡ Ok 2 = gave c.compute-5.result _ c.compute-5.ensures in
-    let h : c.sign-extend-5.result ≡ wrap (negsuc 127) = c.sign-extend-5.ensures in
+    let h : c.sign_extend-5.result ≡ wrap (negsuc 127) = c.sign_extend-5.ensures in
     record {
       stand = record { quotient = refl; remainder = refl; overflow = refl; overflowed = refl; shift = refl; byte = refl; extended = refl };
       answers = cc;

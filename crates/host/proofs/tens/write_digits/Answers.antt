@@ -13,8 +13,8 @@ past : (c : goal.After-loop-left) → 2 ≤ c.loop-left.start
 past c =
     two_more c.args.n c.loop-left.left c.loop-left.start c.loop-left.out (omega arith) (omega arith) (omega arith) (omega arith) c.loop-left.invariant.2
 
-pub overflow-sub-start : goal.overflow-sub-start
-overflow-sub-start c = let two = inside c in omega arith
+pub overflow_sub-start : goal.overflow_sub-start
+overflow_sub-start c = let two = inside c in omega arith
 
 pub loop-left-preserved : goal.loop-left-preserved
 loop-left-preserved c =
@@ -25,8 +25,8 @@ loop-left-preserved c =
           c.loop-left.invariant.2,
     )
 
-pub overflow-sub-start-2 : goal.overflow-sub-start-2
-overflow-sub-start-2 c = let two = past c in omega arith
+pub overflow_sub-start-2 : goal.overflow_sub-start-2
+overflow_sub-start-2 c = let two = past c in omega arith
 
 pub returns : goal.returns
 returns c =

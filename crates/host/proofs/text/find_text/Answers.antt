@@ -4,7 +4,7 @@ use Rattle.host.proofs.text.find_text.Goals as goal
 
 pub returns-then-position-strings : goal.returns-then-position-strings
 returns-then-position-strings c =
-    c.no-text.ensures ∙ no_text_past c.args.strings.now c.args.position c.if-position-strings.true
+    c.no_text.ensures ∙ no_text_past c.args.strings.now c.args.position c.if-position-strings.true
 
 pub returns : goal.returns
-returns c = text_in-rest c.args.strings.now c.args.position c.before-zero-size.result c.before-zero-size.ensures.text
+returns c = text_in-rest c.args.strings.now c.args.position c.before_zero-size.result c.before_zero-size.ensures.text

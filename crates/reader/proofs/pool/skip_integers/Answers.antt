@@ -6,15 +6,15 @@ use Rattle.reader.proofs.Repeating.{series_more, series_fault, series_end}
 use Rattle.reader.proofs.Turns.{integers_more, integer_found, integer_cut_lem}
 use Rattle.reader.proofs.pool.skip_integers.Goals as goal
 
-pub returns-in-err-block : goal.returns-in-err-block
-returns-in-err-block c =
-    let p = err_from_is_err_and c.from-residual.result c.from-residual.ensures.1 in
+pub returns-in_err-block : goal.returns-in_err-block
+returns-in_err-block c =
+    let p = err_from_is_err_and c.from_residual.result c.from_residual.ensures.1 in
     rw (p.1, p.2)
     (record {
       met =
           c.loop-i.invariant.0 ∙
           series_fault (λ i s. integer_at c.args.bytes.now s.after) c.args.count c.loop-i.i _ _ _ c.loop-i-test.true
-          (integer_cut_lem _ _ _ c.in-err-block.ensures.met);
+          (integer_cut_lem _ _ _ c.in_err-block.ensures.met);
       room = tt;
       inside = tt;
       words = tt;
@@ -25,8 +25,8 @@ loop-i-preserved c = (
   c.loop-i.invariant.0 ∙
       series_more (λ i s. integer_at c.args.bytes.now s.after) c.args.count c.loop-i.i _ _ _ _ _ c.loop-i-test.true
       (integers_more c.args.bytes.now c.args.offset c.loop-i.after c.loop-i.i c.loop-i.invariant.2)
-      (integer_found _ _ _ c.in-ok-block.ensures.met),
-  c.in-ok-block.ensures.room,
+      (integer_found _ _ _ c.in_ok-block.ensures.met),
+  c.in_ok-block.ensures.room,
   omega (arith, c.loop-i.invariant.2),
 )
 
@@ -42,9 +42,9 @@ returns c =
       inside = omega (arith, c.loop-i.invariant.2);
       words = λ k lt.
           let p : ℕ = c.args.offset + 4 * k in
-          let a = c.type-inv.bytes p in
-          let b = c.type-inv.bytes (p + 1) in
-          let d = c.type-inv.bytes (p + 2) in
-          let f = c.type-inv.bytes (p + 2 + 1) in
+          let a = c.type_inv.bytes p in
+          let b = c.type_inv.bytes (p + 1) in
+          let d = c.type_inv.bytes (p + 2) in
+          let f = c.type_inv.bytes (p + 2 + 1) in
           omega arith;
     }

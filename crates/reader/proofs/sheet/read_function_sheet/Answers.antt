@@ -21,20 +21,20 @@ asked : (bs : List ℕ) (fs gs : List Function) (n i p : ℕ) → length gs ≡ 
 asked bs fs gs n i p e k l h o =
     subst (λ a. record_at bs 1 (eqb i 0) a p ≡ o) (sym (count_at (function_entry_of bs) function_arguments gs (map (function_entry_of bs) (take n fs)) n i no_function_record (omega arith) l h))
 
-pub read-record-requires : goal.read-record-requires
-read-record-requires c =
+pub read_record-requires : goal.read_record-requires
+read_record-requires c =
     let f = all_at (FunctionFits c.args.bytes.now) c.loop-i.list c.args.count c.loop-i.i no_function_record (omega (arith, c.loop-i.invariant.6)) c.loop-i-test.true c.loop-i.invariant.3 in
     record { inside = c.loop-i.invariant.1; few = omega (arith, f.narrow, f.ordered) }
 
-pub returns-in-err-kinds : goal.returns-in-err-kinds
-returns-in-err-kinds c =
-    let p = err_from_is_err_and c.from-residual.result c.from-residual.ensures.1 in
+pub returns-in_err-kinds : goal.returns-in_err-kinds
+returns-in_err-kinds c =
+    let p = err_from_is_err_and c.from_residual.result c.from_residual.ensures.1 in
     rw (p.1, p.2)
     (record {
       met =
           c.loop-i.invariant.0 ∙
           series_fault (step c.args.bytes.now c.args.count c.args.list.now) c.args.count c.loop-i.i _ _ _ c.loop-i-test.true
-          (asked c.args.bytes.now c.args.list.now c.loop-i.list c.args.count c.loop-i.i c.loop-i.after c.loop-i.invariant.6 c.requires.few c.loop-i-test.true c.loop-i.invariant.2 _ c.in-err-kinds.ensures.met);
+          (asked c.args.bytes.now c.args.list.now c.loop-i.list c.args.count c.loop-i.i c.loop-i.after c.loop-i.invariant.6 c.requires.few c.loop-i-test.true c.loop-i.invariant.2 _ c.in_err-kinds.ensures.met);
       room = tt;
       kept = c.loop-i.invariant.2;
       fit = c.loop-i.invariant.3;
@@ -50,14 +50,14 @@ loop-i-preserved c =
       c.loop-i.invariant.0 ∙
           series_more (step c.args.bytes.now c.args.count c.args.list.now) c.args.count c.loop-i.i _ _ _ _ _ c.loop-i-test.true
           (filled_more (function_signature_of c.args.bytes.now) c.loop-i.list c.loop-i.i _ k)
-          (asked c.args.bytes.now c.args.list.now c.loop-i.list c.args.count c.loop-i.i c.loop-i.after c.loop-i.invariant.6 c.requires.few c.loop-i-test.true c.loop-i.invariant.2 _ c.in-ok-kinds.ensures.met),
-      c.in-ok-kinds.ensures.room,
+          (asked c.args.bytes.now c.args.list.now c.loop-i.list c.args.count c.loop-i.i c.loop-i.after c.loop-i.invariant.6 c.requires.few c.loop-i-test.true c.loop-i.invariant.2 _ c.in_ok-kinds.ensures.met),
+      c.in_ok-kinds.ensures.room,
       kept_map (function_entry_of c.args.bytes.now) c.loop-i.list _ c.args.count c.loop-i.i _ no_function_record c.loop-i-test.true refl c.loop-i.invariant.2,
       kept_all (FunctionFits c.args.bytes.now) c.loop-i.list c.args.count c.loop-i.i _ c.loop-i-test.true
           (record { some = f.some; few = f.few; inside = f.inside; narrow = f.narrow; ordered = f.ordered }) c.loop-i.invariant.3,
-      filled_all (FunctionLettered c.args.bytes.now) c.loop-i.list c.loop-i.i _ k c.loop-i.invariant.4 c.in-ok-kinds.ensures.room,
+      filled_all (FunctionLettered c.args.bytes.now) c.loop-i.list c.loop-i.i _ k c.loop-i.invariant.4 c.in_ok-kinds.ensures.room,
       (λ _. first_set (λ f. kind_of (byte c.args.bytes.now f.kinds) ≡ Word) c.loop-i.list c.loop-i.i _ no_function_record k c.loop-i.invariant.5
-          (λ z. c.in-ok-kinds.ensures.gives (eq-eqb c.loop-i.i 0 z))),
+          (λ z. c.in_ok-kinds.ensures.gives (eq-eqb c.loop-i.i 0 z))),
       simp length-set c.loop-i.invariant.6,
       kept_all (FunctionBehind c.args.bytes.now) c.loop-i.list c.args.count c.loop-i.i _ c.loop-i-test.true
           (all_at (FunctionBehind c.args.bytes.now) c.loop-i.list c.args.count c.loop-i.i no_function_record (omega (arith, c.loop-i.invariant.6)) c.loop-i-test.true c.loop-i.invariant.7)

@@ -19,20 +19,20 @@ asked : (bs : List ℕ) (fs gs : List Native) (n i p : ℕ) → length gs ≡ 32
 asked bs fs gs n i p e k l h o =
     subst (λ a. record_at bs 2 false a p ≡ o) (sym (count_at native_entry_of native_arguments gs (map native_entry_of (take n fs)) n i no_native_record (omega arith) l h))
 
-pub read-record-requires : goal.read-record-requires
-read-record-requires c =
+pub read_record-requires : goal.read_record-requires
+read_record-requires c =
     let f = all_at NativeFits c.loop-i.list c.args.count c.loop-i.i no_native_record (omega (arith, c.loop-i.invariant.5)) c.loop-i-test.true c.loop-i.invariant.3 in
     record { inside = c.loop-i.invariant.1; few = omega (arith, f) }
 
-pub returns-in-err-kinds : goal.returns-in-err-kinds
-returns-in-err-kinds c =
-    let p = err_from_is_err_and c.from-residual.result c.from-residual.ensures.1 in
+pub returns-in_err-kinds : goal.returns-in_err-kinds
+returns-in_err-kinds c =
+    let p = err_from_is_err_and c.from_residual.result c.from_residual.ensures.1 in
     rw (p.1, p.2)
     (record {
       met =
           c.loop-i.invariant.0 ∙
           series_fault (step c.args.bytes.now c.args.count c.args.list.now) c.args.count c.loop-i.i _ _ _ c.loop-i-test.true
-          (asked c.args.bytes.now c.args.list.now c.loop-i.list c.args.count c.loop-i.i c.loop-i.after c.loop-i.invariant.5 c.requires.few c.loop-i-test.true c.loop-i.invariant.2 _ c.in-err-kinds.ensures.met);
+          (asked c.args.bytes.now c.args.list.now c.loop-i.list c.args.count c.loop-i.i c.loop-i.after c.loop-i.invariant.5 c.requires.few c.loop-i-test.true c.loop-i.invariant.2 _ c.in_err-kinds.ensures.met);
       room = tt;
       kept = c.loop-i.invariant.2;
       fit = c.loop-i.invariant.3;
@@ -46,11 +46,11 @@ loop-i-preserved c =
       c.loop-i.invariant.0 ∙
           series_more (step c.args.bytes.now c.args.count c.args.list.now) c.args.count c.loop-i.i _ _ _ _ _ c.loop-i-test.true
           (filled_more (native_signature_of c.args.bytes.now) c.loop-i.list c.loop-i.i _ k)
-          (asked c.args.bytes.now c.args.list.now c.loop-i.list c.args.count c.loop-i.i c.loop-i.after c.loop-i.invariant.5 c.requires.few c.loop-i-test.true c.loop-i.invariant.2 _ c.in-ok-kinds.ensures.met),
-      c.in-ok-kinds.ensures.room,
+          (asked c.args.bytes.now c.args.list.now c.loop-i.list c.args.count c.loop-i.i c.loop-i.after c.loop-i.invariant.5 c.requires.few c.loop-i-test.true c.loop-i.invariant.2 _ c.in_ok-kinds.ensures.met),
+      c.in_ok-kinds.ensures.room,
       kept_map native_entry_of c.loop-i.list _ c.args.count c.loop-i.i _ no_native_record c.loop-i-test.true refl c.loop-i.invariant.2,
       kept_all NativeFits c.loop-i.list c.args.count c.loop-i.i _ c.loop-i-test.true f c.loop-i.invariant.3,
-      filled_all (NativeLettered c.args.bytes.now) c.loop-i.list c.loop-i.i _ k c.loop-i.invariant.4 c.in-ok-kinds.ensures.room,
+      filled_all (NativeLettered c.args.bytes.now) c.loop-i.list c.loop-i.i _ k c.loop-i.invariant.4 c.in_ok-kinds.ensures.room,
       simp length-set c.loop-i.invariant.5,
     )
 

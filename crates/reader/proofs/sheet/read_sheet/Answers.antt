@@ -7,14 +7,14 @@ pub returns : goal.returns
 returns c =
     record {
       met =
-          sheet_joined c.args.bytes.now c.args.function-count _ c.args.native-count _ c.args.offset _ _ _ _
-          c.in-ok-native-sheet.ensures.kept c.in-ok-end.ensures.kept
-          c.in-ok-native-sheet.ensures.met c.in-ok-end.ensures.met c.if-end-bytes.false;
+          sheet_joined c.args.bytes.now c.args.function_count _ c.args.native_count _ c.args.offset _ _ _ _
+          c.in_ok-native_sheet.ensures.kept c.in_ok-end.ensures.kept
+          c.in_ok-native_sheet.ensures.met c.in_ok-end.ensures.met c.if-end-bytes.false;
       functionsKnown =
-          functions_known c.args.bytes.now _ _ c.args.function-count c.requires.some (omega arith) c.requires.functionsFit
-          c.in-ok-native-sheet.ensures.kept c.in-ok-native-sheet.ensures.fit
-          c.in-ok-native-sheet.ensures.lettered (c.in-ok-native-sheet.ensures.gives c.requires.some);
-      behind = c.in-ok-native-sheet.ensures.behind;
-      nativesKnown = record { each = c.in-ok-end.ensures.fit; lettered = c.in-ok-end.ensures.lettered };
-      sum = code_same c.args.bytes.now _ ∙ ap code_bytes c.in-ok-native-sheet.ensures.kept;
+          functions_known c.args.bytes.now _ _ c.args.function_count c.requires.some (omega arith) c.requires.functionsFit
+          c.in_ok-native_sheet.ensures.kept c.in_ok-native_sheet.ensures.fit
+          c.in_ok-native_sheet.ensures.lettered (c.in_ok-native_sheet.ensures.gives c.requires.some);
+      behind = c.in_ok-native_sheet.ensures.behind;
+      nativesKnown = record { each = c.in_ok-end.ensures.fit; lettered = c.in_ok-end.ensures.lettered };
+      sum = code_same c.args.bytes.now _ ∙ ap code_bytes c.in_ok-native_sheet.ensures.kept;
     }

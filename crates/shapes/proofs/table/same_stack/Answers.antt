@@ -5,13 +5,13 @@ use Rattle.shapes.proofs.table.same_stack.Goals as goal
 pub returns-then-a-b : goal.returns-then-a-b
 returns-then-a-b c = sym (depths_differ c.args.a.now.depth c.args.b.now.depth c.args.a.now.stack c.args.b.now.stack c.if-a-b.true)
 
-pub returns-then-not-same-kind : goal.returns-then-not-same-kind
-returns-then-not-same-kind c =
+pub returns-then-not-same_kind : goal.returns-then-not-same_kind
+returns-then-not-same_kind c =
     sym (stacks_differ c.args.a.now.stack c.args.b.now.stack c.args.a.now.depth c.args.b.now.depth c.loop-i.i c.if-a-b.false c.loop-i-test.true
-    (sym c.if-not-same-kind.ensures))
+    (sym c.if-not-same_kind.ensures))
 
 pub loop-i-preserved : goal.loop-i-preserved
-loop-i-preserved c = below_more _ _ c.loop-i.invariant (sym c.if-not-same-kind.ensures)
+loop-i-preserved c = below_more _ _ c.loop-i.invariant (sym c.if-not-same_kind.ensures)
 
 pub returns : goal.returns
 returns c =

@@ -7,11 +7,11 @@ use Rattle.cells.proofs.Stores.{and_then-gives}
 use Rattle.cells.proofs.Arrays.{array_at-gives, element_small, element_known}
 use Rattle.cells.proofs.memory.Memory.add_index.Goals as goal
 
-pub overflow-add-result-2 : goal.overflow-add-result-2
-overflow-add-result-2 c =
+pub overflow_add-result-2 : goal.overflow_add-result-2
+overflow_add-result-2 c =
     let l = storage_of c.args.self.now in
-    let b = c.in-ok-b.b in
-    let a = array_at-gives l c.requires.sound c.args.r c.requires.known b c.in-ok-b.ensures in
+    let b = c.in_ok-b.b in
+    let a = array_at-gives l c.requires.sound c.args.r c.requires.known b c.in_ok-b.ensures in
     let lt : c.args.i < b.count = omega arith in
     let x = element_small c.args.r l.count c.args.i b a lt in
     let k = c.requires.known a.is_block in
@@ -22,8 +22,8 @@ overflow-add-result-2 c =
 pub returns : goal.returns
 returns c =
     let l = storage_of c.args.self.now in
-    let b = c.in-ok-b.b in
-    let is = c.in-ok-b.ensures in
+    let b = c.in_ok-b.b in
+    let is = c.in_ok-b.ensures in
     let a = array_at-gives l c.requires.sound c.args.r c.requires.known b is in
     let lt : c.args.i < b.count = omega arith in
     let number = c.args.r + (8 + c.args.i * b.size) in

@@ -8,8 +8,8 @@ use Rattle.cells.specs.View.{storage_of}
 use Rattle.cells.proofs.Allocations.{has_room-true, place_gives, place_sound, place_known, place_blocks, place_lengths}
 use Rattle.cells.proofs.memory.Memory.new_array.Goals as goal
 
-pub has-room-requires : goal.has-room-requires
-has-room-requires c =
+pub has_room-requires : goal.has_room-requires
+has_room-requires c =
     let n : c.args.n ≤ 4294967295 = omega arith in
     let s : c.args.s ≤ 255 = omega arith in
     let p : c.args.n * c.args.s ≤ 4294967295 * 255 = mul-le-mul n s in
@@ -19,7 +19,7 @@ pub bounds-self-at : goal.bounds-self-at
 bounds-self-at c =
     let l = storage_of c.args.self.now in
     let goal = room (array c.args.n c.args.s) in
-    let left = (has_room-true l goal (sym c.if-not-has-room.ensures)).cells_left in
+    let left = (has_room-true l goal (sym c.if-not-has_room.ensures)).cells_left in
     let same = ap (λ (x : Storage). length x.cells) c.take-r.ensures.after ∙ length-clear l.cells l.used goal in
     omega arith
 
@@ -28,13 +28,13 @@ returns c =
     let l = storage_of c.args.self.now in
     let n = c.args.n in
     let how = array n c.args.s in
-    let header : List ℕ = c.array-header.result in
+    let header : List ℕ = c.array_header.result in
     let after = with_cell (storage_of c.take-r.new.self) l.used (unmarked header) in
     let number = c.take-r.result in
-    let room = sym c.if-not-has-room.ensures in
+    let room = sym c.if-not-has_room.ensures in
     let took = c.take-r.ensures in
     let is_placed : after ≡ placed l how
-    = ap₂ (λ (x : Storage) (bs : List ℕ). with_cell x l.used (unmarked bs)) took.after c.array-header.ensures in
+    = ap₂ (λ (x : Storage) (bs : List ℕ). with_cell x l.used (unmarked bs)) took.after c.array_header.ensures in
     let short : n < 2 ^ 31 = omega arith in
     record {
       value = place_gives l how after number room is_placed took.value

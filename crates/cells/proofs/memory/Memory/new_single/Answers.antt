@@ -10,7 +10,7 @@ returns c =
     let how = single c.args.s in
     let after = storage_of c.take.new.self in
     let number = c.take.result in
-    let room = sym c.if-not-has-room.ensures in
+    let room = sym c.if-not-has_room.ensures in
     let took = c.take.ensures in
     record {
       value = place_gives l how after number room took.after took.value;

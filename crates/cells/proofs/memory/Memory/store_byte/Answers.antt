@@ -10,11 +10,11 @@ returns c =
     let l = storage_of c.args.self.now in
     let r = c.args.r in
     let w = c.args.w in
-    let j = c.in-ok-j.j in
-    let found = c.in-ok-j.ensures in
-    let after = c.write-byte.new.c in
-    let x = c.write-byte.result in
-    let wrote = c.write-byte.ensures in
+    let j = c.in_ok-j.j in
+    let found = c.in_ok-j.ensures in
+    let after = c.write_byte.new.c in
+    let x = c.write_byte.result in
+    let wrote = c.write_byte.ensures in
     record {
       value = store_gives l j after (locate l r 1) (λ i. byte_into (cell_in l i) (r % 8) w) x found.value wrote.value;
       same = unchanged-with_cell l j after x wrote.same;

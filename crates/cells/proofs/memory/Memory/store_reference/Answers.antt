@@ -10,11 +10,11 @@ returns c =
     let l = storage_of c.args.self.now in
     let r = c.args.r in
     let v = c.args.v in
-    let j = c.in-ok-j.j in
-    let found = c.in-ok-j.ensures in
-    let after = c.write-number.new.c in
-    let x = c.write-number.result in
-    let wrote = c.write-number.ensures in
+    let j = c.in_ok-j.j in
+    let found = c.in_ok-j.ensures in
+    let after = c.write_number.new.c in
+    let x = c.write_number.result in
+    let wrote = c.write_number.ensures in
     let held = c.requires.held in
     record {
       value = store_gives l j after (locate l r 8) (λ i. number_into (cell_in l i) v) x found.value wrote.value;

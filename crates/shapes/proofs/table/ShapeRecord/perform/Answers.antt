@@ -15,7 +15,7 @@ pub returns-in-Swap : goal.returns-in-Swap
 returns-in-Swap c = record { met = as_swap _ _ _ _ _ c.in-Swap.is ∙ c.swap.ensures.met; tidy = c.swap.ensures.tidy }
 
 pub returns-in-Alike : goal.returns-in-Alike
-returns-in-Alike c = record { met = as_alike _ _ _ _ _ c.in-Alike.is ∙ c.take-alike.ensures.met; tidy = c.take-alike.ensures.tidy }
+returns-in-Alike c = record { met = as_alike _ _ _ _ _ c.in-Alike.is ∙ c.take_alike.ensures.met; tidy = c.take_alike.ensures.tidy }
 
 pub returns-in-Give : goal.returns-in-Give
 returns-in-Give c = record { met = as_give _ _ _ _ _ _ c.in-Give.is ∙ c.give.ensures.met; tidy = c.give.ensures.tidy }

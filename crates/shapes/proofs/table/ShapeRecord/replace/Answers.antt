@@ -13,11 +13,11 @@ returns-then-self-taken c =
     record
     { met = fixed_few _ _ c.args.self.now.depth _ _ c.args.taken.now.count c.args.taken.now.entries _ c.if-self-taken.true; tidy = c.requires.tidy }
 
-pub returns-then-not-has-on-top : goal.returns-then-not-has-on-top
-returns-then-not-has-on-top c =
+pub returns-then-not-has_on_top : goal.returns-then-not-has_on_top
+returns-then-not-has_on_top c =
     record {
       met =
-          fixed_wrong _ _ c.args.self.now.depth _ _ c.args.taken.now.count c.args.taken.now.entries _ c.if-self-taken.false c.if-not-has-on-top.ensures;
+          fixed_wrong _ _ c.args.self.now.depth _ _ c.args.taken.now.count c.args.taken.now.entries _ c.if-self-taken.false c.if-not-has_on_top.ensures;
       tidy = c.requires.tidy;
     }
 
@@ -26,7 +26,7 @@ returns-in-Some c =
     record {
       met =
           ap (λ o. perform c.args.function c.args.place 0 (fixed (kinds_of c.args.taken.now) (one_or_none o)) (shape_in c.args.self.now)) c.in-Some.is ∙
-          fixed_right _ _ c.args.self.now.depth _ _ c.args.taken.now.count c.args.taken.now.entries _ c.if-self-taken.false c.if-not-has-on-top.ensures ∙
+          fixed_right _ _ c.args.self.now.depth _ _ c.args.taken.now.count c.args.taken.now.entries _ c.if-self-taken.false c.if-not-has_on_top.ensures ∙
           ap (λ (s : Shape). pushed c.args.function c.args.place c.in-Some.kind s) (sym c.lower.ensures.shape) ∙
           c.push.ensures.met;
       tidy = c.push.ensures.tidy;
@@ -39,7 +39,7 @@ returns-in-None c =
     record {
       met =
           ap (λ o. perform c.args.function c.args.place 0 (fixed (kinds_of c.args.taken.now) (one_or_none o)) (shape_in c.args.self.now)) c.in-None.is ∙
-          fixed_right _ _ c.args.self.now.depth _ _ c.args.taken.now.count c.args.taken.now.entries _ c.if-self-taken.false c.if-not-has-on-top.ensures ∙
+          fixed_right _ _ c.args.self.now.depth _ _ c.args.taken.now.count c.args.taken.now.entries _ c.if-self-taken.false c.if-not-has_on_top.ensures ∙
           room_fine _ _ _ _ (omega (arith, c.requires.tidy.low)) ∙
           ap good (sym c.lower.ensures.shape);
       tidy = c.lower.ensures.tidy;

@@ -8,38 +8,38 @@ use Rattle.source.proofs.Characters.{byte-answered-at}
 use Rattle.source.proofs.hex.HexTextSource.next.Goals as goal
 use Rattle.source.proofs.hex.HexTextSource.next.Goals.{in-Some, in-None}
 
-pub invariant-of-self : goal.invariant-of-self
-invariant-of-self c =
+pub invariant_of-self : goal.invariant_of-self
+invariant_of-self c =
     let t = c.args.self.now.text.now in
-    let start = c.skip-blanks-start.result in
+    let start = c.skip_blanks-start.result in
     elim c.match-found.branch [
       | in-Some w ↦
-          let told : next_of (between (drop start.offset t) start.at) ≡ Ok (Some w.in-Some.field-0) = sym c.in-ok-found.ensures ∙ ap Ok w.in-Some.is in
-          let found = byte-answered-at t start.offset start.at w.in-Some.field-0 c.skip-blanks-start.ensures.passed told in
-          let here = c.skip-blanks-start.ensures.inside in
+          let told : next_of (between (drop start.offset t) start.at) ≡ Ok (Some w.in-Some.field-0) = sym c.in_ok-found.ensures ∙ ap Ok w.in-Some.is in
+          let found = byte-answered-at t start.offset start.at w.in-Some.field-0 c.skip_blanks-start.ensures.passed told in
+          let here = c.skip_blanks-start.ensures.inside in
           let behind : Inside t (record { offset = start.offset + 2; at = right (right start.at) }) = (found.0, omega arith, omega arith) in
-          (subst (λ (r : Cursor). Inside t r) (sym (w.self-is ∙ w.behind-byte-self.ensures)) behind, tt)
-      | in-None w ↦ (subst (λ (r : Cursor). Inside t r) (sym w.self-is) c.skip-blanks-start.ensures.inside, tt)
+          record { within = subst (λ (r : Cursor). Inside t r) (sym (w.self-is ∙ w.behind_byte-self.ensures)) behind }
+      | in-None w ↦ record { within = subst (λ (r : Cursor). Inside t r) (sym w.self-is) c.skip_blanks-start.ensures.inside }
     ]
 
 pub returns : goal.returns
 returns c =
     let t = c.args.self.now.text.now in
-    let start = c.skip-blanks-start.result in
-    let same = c.skip-blanks-start.ensures.same in
-    let value = c.in-ok-found.ensures ∙ ap next_of same in
+    let start = c.skip_blanks-start.result in
+    let same = c.skip_blanks-start.ensures.same in
+    let value = c.in_ok-found.ensures ∙ ap next_of same in
     elim c.match-found.branch [
       | in-Some w ↦
-          let told : next_of (between (drop start.offset t) start.at) ≡ Ok (Some w.in-Some.field-0) = sym c.in-ok-found.ensures ∙ ap Ok w.in-Some.is in
-          let found = byte-answered-at t start.offset start.at w.in-Some.field-0 c.skip-blanks-start.ensures.passed told in
+          let told : next_of (between (drop start.offset t) start.at) ≡ Ok (Some w.in-Some.field-0) = sym c.in_ok-found.ensures ∙ ap Ok w.in-Some.is in
+          let found = byte-answered-at t start.offset start.at w.in-Some.field-0 c.skip_blanks-start.ensures.passed told in
           record {
             value = value;
             after =
-                ap (λ (r : Cursor). between (drop r.offset t) r.at) (w.self-is ∙ w.behind-byte-self.ensures)
+                ap (λ (r : Cursor). between (drop r.offset t) r.at) (w.self-is ∙ w.behind_byte-self.ensures)
                 ∙ sym (ap after_next (sym same ∙ found.1));
           }
       | in-None w ↦
-          let told : next_of (between (drop start.offset t) start.at) ≡ Ok None = sym c.in-ok-found.ensures ∙ ap Ok w.in-None.is in
+          let told : next_of (between (drop start.offset t) start.at) ≡ Ok None = sym c.in_ok-found.ensures ∙ ap Ok w.in-None.is in
           record {
             value = value;
             after =
