@@ -8,4 +8,4 @@ returns-then-function-package c = call_none (program_of c.args.«package».now) 
 
 pub returns : goal.returns
 returns c =
-    call_some (program_of c.args.«package».now) c.args.function _ _ (omega (arith, c.requires.function_count)) c.function-arguments.ensures.kinds c.result-kind.ensures
+    call_some (program_of c.args.«package».now) c.args.function _ _ (omega (arith, c.requires.function_count)) c.function_arguments.ensures.kinds c.result_kind.ensures

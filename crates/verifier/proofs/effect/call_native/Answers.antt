@@ -8,4 +8,4 @@ returns-then-native-package c = native_none (program_of c.args.«package».now) 
 
 pub returns : goal.returns
 returns c =
-    native_some (program_of c.args.«package».now) c.args.native _ _ (omega (arith, c.requires.native_count)) c.native-arguments.ensures c.native-result-kind.ensures
+    native_some (program_of c.args.«package».now) c.args.native _ _ (omega (arith, c.requires.native_count)) c.native_arguments.ensures c.native_result_kind.ensures

@@ -10,9 +10,9 @@ returns c =
     let h = function_formed c.args.«package».now c.requires.fitting c.args.function c.requires.inside in
     record {
       met =
-          entry_shape c.blank-record-shape.result c.blank-record-shape.ensures _ _ c.function-arguments.ensures.entries
+          entry_shape c.blank_record-shape.result c.blank_record-shape.ensures _ _ c.function_arguments.ensures.entries
           (function_at (program_of c.args.«package».now) c.args.function) refl;
       tidy =
-          entry_tidy c.blank-record-shape.result c.blank-record-shape.ensures
-          (function_at (program_of c.args.«package».now) c.args.function).signature.arguments _ c.function-arguments.ensures.entries (omega (arith, h.ordered, h.narrow));
+          entry_tidy c.blank_record-shape.result c.blank_record-shape.ensures
+          (function_at (program_of c.args.«package».now) c.args.function).signature.arguments _ c.function_arguments.ensures.entries (omega (arith, h.ordered, h.narrow));
     }

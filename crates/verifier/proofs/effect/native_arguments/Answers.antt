@@ -10,8 +10,8 @@ loop-i-init c =
 
 pub loop-i-preserved : goal.loop-i-preserved
 loop-i-preserved c =
-    laid_step (native_in (program_of c.args.«package».now) c.args.native).signature.arguments c.loop-i.i c.loop-i.entries _ (omega (arith, c.native-argument-count-count.ensures.met)) (omega (arith, c.native-argument-count-count.ensures.few)) c.loop-i.invariant c.native-argument-kind.ensures
+    laid_step (native_in (program_of c.args.«package».now) c.args.native).signature.arguments c.loop-i.i c.loop-i.entries _ (omega (arith, c.native_argument_count-count.ensures.met)) (omega (arith, c.native_argument_count-count.ensures.few)) c.loop-i.invariant c.native_argument_kind.ensures
 
 pub returns : goal.returns
 returns c =
-    laid_stack (native_in (program_of c.args.«package».now) c.args.native).signature.arguments _ _ c.native-argument-count-count.ensures.met (c.loop-i.invariant ∙ laid_all (native_in (program_of c.args.«package».now) c.args.native).signature.arguments c.loop-i.i (omega (arith, c.native-argument-count-count.ensures.met)))
+    laid_stack (native_in (program_of c.args.«package».now) c.args.native).signature.arguments _ _ c.native_argument_count-count.ensures.met (c.loop-i.invariant ∙ laid_all (native_in (program_of c.args.«package».now) c.args.native).signature.arguments c.loop-i.i (omega (arith, c.native_argument_count-count.ensures.met)))

@@ -4,7 +4,7 @@ use Rattle.verifier.proofs.program.check.Goals as goal
 
 pub judge-requires : goal.judge-requires
 judge-requires c =
-    record { blank = blank_filled _ _ _ _ (c.fill.ensures.after (λ y h. h)) c.blank-record.ensures (sym c.fill.ensures.len) }
+    record { blank = blank_filled _ _ _ _ (c.fill.ensures.after (λ y h. h)) c.blank_record.ensures (sym c.fill.ensures.len) }
 
 pub returns-in-Ok : goal.returns-in-Ok
 returns-in-Ok c =
@@ -14,14 +14,14 @@ returns-in-Ok c =
     let formed = c.in-Ok.ensures.formed in
     let met = same_room bytes m room c.fill.ensures.len formed (Ok c.in-Ok.accepted) c.in-Ok.ensures.met in
     let memory =
-    accepted_table bytes m room c.fill.ensures.len formed c.in-Ok.accepted c.judge.new.table c.drop-starts.new.table c.in-Ok.ensures.met c.in-Ok.ensures.memory
-    c.drop-starts.ensures in
+    accepted_table bytes m room c.fill.ensures.len formed c.in-Ok.accepted c.judge.new.table c.drop_starts.new.table c.in-Ok.ensures.met c.in-Ok.ensures.memory
+    c.drop_starts.ensures in
     record {
       met = met;
       memory = memory;
       lent = c.in-Ok.ensures.lent;
       checked = c.in-Ok.ensures.checked;
-      decides = decided bytes room (Ok c.in-Ok.accepted) c.drop-starts.new.table formed met memory;
+      decides = decided bytes room (Ok c.in-Ok.accepted) c.drop_starts.new.table formed met memory;
     }
 
 pub returns-in-Err : goal.returns-in-Err
@@ -33,5 +33,5 @@ returns-in-Err c =
     let met = same_room bytes m room c.fill.ensures.len formed (Err c.in-Err.refusal) c.in-Err.ensures.met in
     let memory =
     refused_table bytes m room c.fill.ensures.len formed c.in-Err.refusal c.fill-in-Err.new.self c.in-Err.ensures.met
-    (blank_filled _ _ _ _ (c.fill-in-Err.ensures.after (λ y h. h)) c.blank-record-in-Err.ensures c.judge.auto.table) in
+    (blank_filled _ _ _ _ (c.fill-in-Err.ensures.after (λ y h. h)) c.blank_record-in-Err.ensures c.judge.auto.table) in
     record { met = met; memory = memory; lent = tt; checked = tt; decides = decided bytes room (Err c.in-Err.refusal) c.fill-in-Err.new.self formed met memory }

@@ -9,85 +9,85 @@ use Rattle.verifier.proofs.Forming.{well_formed}
 use Rattle.verifier.proofs.Judging.{check_unread, check_small, check_undecoded, check_unswept, check_accepted, judge_is, formed_only, unread_formed}
 use Rattle.verifier.proofs.program.judge.Goals as goal
 
-pub returns-in-err-package : goal.returns-in-err-package
-returns-in-err-package c =
-    let p = err_from_is_err_and c.from-residual.result c.from-residual.ensures.1 in
+pub returns-in_err-package : goal.returns-in_err-package
+returns-in_err-package c =
+    let p = err_from_is_err_and c.from_residual.result c.from_residual.ensures.1 in
     rw (p.1, p.2)
     (record {
-      met = ap answered (check_unread c.args.bytes.now (length c.args.table.now) _ c.in-err-package.ensures.met);
+      met = ap answered (check_unread c.args.bytes.now (length c.args.table.now) _ c.in_err-package.ensures.met);
       memory = tt;
       lent = tt;
       checked = tt;
-      formed = unread_formed _ _ c.in-err-package.ensures.met;
+      formed = unread_formed _ _ c.in_err-package.ensures.met;
     })
 
 pub returns-then-table-package : goal.returns-then-table-package
 returns-then-table-package c =
-    let k = c.in-ok-package.package in
+    let k = c.in_ok-package.package in
     record {
       met =
           ap answered
-          (check_small c.args.bytes.now (length c.args.table.now) (program_of k) c.in-ok-package.ensures.met
-          (omega (arith, c.in-ok-package.ensures.fitting.code_sum, c.if-table-package.true)));
+          (check_small c.args.bytes.now (length c.args.table.now) (program_of k) c.in_ok-package.ensures.met
+          (omega (arith, c.in_ok-package.ensures.fitting.code_sum, c.if-table-package.true)));
       memory = tt;
       lent = tt;
       checked = tt;
-      formed = formed_only _ (program_of k) c.in-ok-package.ensures.met (well_formed k c.in-ok-package.ensures.fitting);
+      formed = formed_only _ (program_of k) c.in_ok-package.ensures.met (well_formed k c.in_ok-package.ensures.fitting);
     }
 
-pub returns-in-err-mark-all : goal.returns-in-err-mark-all
-returns-in-err-mark-all c =
-    let k = c.in-ok-package.package in
-    let p = err_from_is_err_and c.from-residual-in-err-mark-all.result c.from-residual-in-err-mark-all.ensures.1 in
+pub returns-in_err-mark_all : goal.returns-in_err-mark_all
+returns-in_err-mark_all c =
+    let k = c.in_ok-package.package in
+    let p = err_from_is_err_and c.from_residual-in_err-mark_all.result c.from_residual-in_err-mark_all.ensures.1 in
     rw (p.1, p.2)
     (record {
       met =
           ap answered
-          (check_undecoded c.args.bytes.now (length c.args.table.now) (program_of k) c.in-ok-package.ensures.met
-          (omega (arith, c.in-ok-package.ensures.fitting.code_sum, c.if-table-package.false)) _ c.in-err-mark-all.ensures.met);
+          (check_undecoded c.args.bytes.now (length c.args.table.now) (program_of k) c.in_ok-package.ensures.met
+          (omega (arith, c.in_ok-package.ensures.fitting.code_sum, c.if-table-package.false)) _ c.in_err-mark_all.ensures.met);
       memory = tt;
       lent = tt;
       checked = tt;
-      formed = formed_only _ (program_of k) c.in-ok-package.ensures.met (well_formed k c.in-ok-package.ensures.fitting);
+      formed = formed_only _ (program_of k) c.in_ok-package.ensures.met (well_formed k c.in_ok-package.ensures.fitting);
     })
 
-pub returns-in-err-takes : goal.returns-in-err-takes
-returns-in-err-takes c =
-    let k = c.in-ok-package.package in
-    let p = err_from_is_err_and c.from-residual-in-err-takes.result c.from-residual-in-err-takes.ensures.1 in
+pub returns-in_err-takes : goal.returns-in_err-takes
+returns-in_err-takes c =
+    let k = c.in_ok-package.package in
+    let p = err_from_is_err_and c.from_residual-in_err-takes.result c.from_residual-in_err-takes.ensures.1 in
     rw (p.1, p.2)
     (record {
       met =
           ap answered
-          (check_unswept c.args.bytes.now (length c.args.table.now) (program_of k) c.in-ok-package.ensures.met
-          (omega (arith, c.in-ok-package.ensures.fitting.code_sum, c.if-table-package.false)) (all_starts (program_of k)) _ c.in-ok-mark-all.ensures.met
-          c.in-err-takes.ensures.met);
+          (check_unswept c.args.bytes.now (length c.args.table.now) (program_of k) c.in_ok-package.ensures.met
+          (omega (arith, c.in_ok-package.ensures.fitting.code_sum, c.if-table-package.false)) (all_starts (program_of k)) _ c.in_ok-mark_all.ensures.met
+          c.in_err-takes.ensures.met);
       memory = tt;
       lent = tt;
       checked = tt;
-      formed = formed_only _ (program_of k) c.in-ok-package.ensures.met (well_formed k c.in-ok-package.ensures.fitting);
+      formed = formed_only _ (program_of k) c.in_ok-package.ensures.met (well_formed k c.in_ok-package.ensures.fitting);
     })
 
 pub returns : goal.returns
 returns c =
-    let k = c.in-ok-package.package in
+    let k = c.in_ok-package.package in
     let P : Program = program_of k in
     let e =
-    check_accepted c.args.bytes.now (length c.args.table.now) P c.in-ok-package.ensures.met
-    (omega (arith, c.in-ok-package.ensures.fitting.code_sum, c.if-table-package.false)) (all_starts P) (all_tables P) c.in-ok-takes.takes
-    c.in-ok-mark-all.ensures.met c.in-ok-takes.ensures.met in
+    check_accepted c.args.bytes.now (length c.args.table.now) P c.in_ok-package.ensures.met
+    (omega (arith, c.in_ok-package.ensures.fitting.code_sum, c.if-table-package.false)) (all_starts P) (all_tables P) c.in_ok-takes.takes
+    c.in_ok-mark_all.ensures.met c.in_ok-takes.ensures.met in
     record {
       met = ap answered e;
       memory =
-          c.in-ok-takes.ensures.memory ∙ ap (λ n. working_all n (all_tables P)) c.mark-all.auto.table ∙
+          c.in_ok-takes.ensures.memory ∙ ap (λ n. working_all n (all_tables P)) c.mark_all.auto.table ∙
           ap (λ o. working_all (length c.args.table.now) (tables_in o)) (sym e);
-      lent = c.in-ok-package.ensures.lent;
+      lent = c.in_ok-package.ensures.lent;
       checked =
           record {
-            fitting = c.in-ok-package.ensures.fitting;
+            fitting = c.in_ok-package.ensures.fitting;
             tables = all_tables P;
-            takes = c.in-ok-takes.takes;
-            judged = judge_is P (all_starts P) (all_tables P) c.in-ok-takes.takes c.in-ok-mark-all.ensures.met c.in-ok-takes.ensures.met;
+            takes = c.in_ok-takes.takes;
+            judged = judge_is P (all_starts P) (all_tables P) c.in_ok-takes.takes c.in_ok-mark_all.ensures.met c.in_ok-takes.ensures.met;
           };
-      formed = formed_only _ P c.in-ok-package.ensures.met (well_formed k c.in-ok-package.ensures.fitting);
+      formed = formed_only _ P c.in_ok-package.ensures.met (well_formed k c.in_ok-package.ensures.fitting);
     }

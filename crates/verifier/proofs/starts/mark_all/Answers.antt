@@ -10,8 +10,8 @@ use Rattle.verifier.proofs.Parts.{bytes_more, bytes_in, bytes_all, part_more, re
 use Rattle.verifier.proofs.Decoding.{decode_fault, decode_done}
 use Rattle.verifier.proofs.starts.mark_all.Goals as goal
 
-pub mark-part-requires : goal.mark-part-requires
-mark-part-requires c =
+pub mark_part-requires : goal.mark_part-requires
+mark_part-requires c =
     let P : Program = program_of c.args.«package».now in
     record {
       fitting = c.requires.fitting;
@@ -29,14 +29,14 @@ mark-part-requires c =
       blank = c.loop-function.invariant.3;
     }
 
-pub returns-in-err-from : goal.returns-in-err-from
-returns-in-err-from c =
-    let p = err_from_is_err_and c.from-residual.result c.from-residual.ensures.1 in
+pub returns-in_err-from : goal.returns-in_err-from
+returns-in_err-from c =
+    let p = err_from_is_err_and c.from_residual.result c.from_residual.ensures.1 in
     let P : Program = program_of c.args.«package».now in
     rw (p.1, p.2)
     (record {
       met =
-          decode_fault P (length P.functions) c.loop-function.function _ (omega (arith, c.requires.fitting.function_count)) c.loop-function.invariant.0 c.in-err-from.ensures.met;
+          decode_fault P (length P.functions) c.loop-function.function _ (omega (arith, c.requires.fitting.function_count)) c.loop-function.invariant.0 c.in_err-from.ensures.met;
       decoded = tt;
       memory = tt;
     })
@@ -45,15 +45,15 @@ pub loop-function-preserved : goal.loop-function-preserved
 loop-function-preserved c =
     let P : Program = program_of c.args.«package».now in
     let i : ℕ = c.loop-function.function in
-    let e : c.in-ok-from.from ≡ c.loop-function.from + length (code_at P i) = c.in-ok-from.ensures.end in (
-      below_more _ _ c.loop-function.invariant.0 c.in-ok-from.ensures.met,
+    let e : c.in_ok-from.from ≡ c.loop-function.from + length (code_at P i) = c.in_ok-from.ensures.end in (
+      below_more _ _ c.loop-function.invariant.0 c.in_ok-from.ensures.met,
       omega (arith, e, c.loop-function.invariant.1, bytes_more P i),
-      ap (λ n. take n c.mark-part.new.table) e ∙
-          part_more (fresh_part P) i c.loop-function.table c.mark-part.new.table c.loop-function.from (length (code_at P i)) c.loop-function.invariant.2 c.mark-part.ensures.before
-          c.in-ok-from.ensures.part,
-      ap (λ n. drop n c.mark-part.new.table) e ∙
-          rest_blank c.loop-function.table c.mark-part.new.table c.loop-function.from (length (code_at P i)) c.loop-function.invariant.3 c.mark-part.ensures.after c.mark-part.auto.table ∙
-          ap (λ k. replicate (length c.mark-part.new.table - k) blank_record) (sym e),
+      ap (λ n. take n c.mark_part.new.table) e ∙
+          part_more (fresh_part P) i c.loop-function.table c.mark_part.new.table c.loop-function.from (length (code_at P i)) c.loop-function.invariant.2 c.mark_part.ensures.before
+          c.in_ok-from.ensures.part,
+      ap (λ n. drop n c.mark_part.new.table) e ∙
+          rest_blank c.loop-function.table c.mark_part.new.table c.loop-function.from (length (code_at P i)) c.loop-function.invariant.3 c.mark_part.ensures.after c.mark_part.auto.table ∙
+          ap (λ k. replicate (length c.mark_part.new.table - k) blank_record) (sym e),
     )
 
 pub returns : goal.returns

@@ -12,13 +12,13 @@ loop-place-init c =
       c.requires.blank ∙ ap (map fresh_record) (sym e),
     )
 
-pub returns-in-default : goal.returns-in-default
-returns-in-default c =
+pub returns-in_default : goal.returns-in_default
+returns-in_default c =
     record {
       met =
           c.loop-place.invariant.0.2 ∙
           walk_fault c.args.function c.args.code.now c.loop-place.invariant.0.0 c.loop-place.place (map marks_start c.loop-place.table) c.loop-place.invariant.0.1 c.loop-place-test.true
-          (sym c.in-default.ensures.met);
+          (sym c.in_default.ensures.met);
       memory = c.loop-place.invariant.1;
     }
 

@@ -16,8 +16,8 @@ use Rattle.verifier.proofs.sweep.sweep_all.Goals as goal
 pub loop-function-init : goal.loop-function-init
 loop-function-init c = (λ g h. absurd (omega arith), refl, refl, refl, sym (takes_none (program_of c.args.«package».now)), omega arith)
 
-pub sweep-part-requires : goal.sweep-part-requires
-sweep-part-requires c =
+pub sweep_part-requires : goal.sweep_part-requires
+sweep_part-requires c =
     let P : Program = program_of c.args.«package».now in
     let i : ℕ = c.loop-function.function in
     let n = length P.functions in
@@ -33,24 +33,24 @@ sweep-part-requires c =
       decoded = c.requires.decoded i (omega (arith, c.requires.fitting.function_count));
     }
 
-pub returns-in-err-takes : goal.returns-in-err-takes
-returns-in-err-takes c =
-    let p = err_from_is_err_and c.from-residual.result c.from-residual.ensures.1 in
+pub returns-in_err-takes : goal.returns-in_err-takes
+returns-in_err-takes c =
+    let p = err_from_is_err_and c.from_residual.result c.from_residual.ensures.1 in
     let P : Program = program_of c.args.«package».now in
     rw (p.1, p.2)
     (record {
       met =
-          sweep_fault P (length P.functions) c.loop-function.function _ (omega (arith, c.requires.fitting.function_count)) c.loop-function.invariant.0 c.in-err-takes.ensures.met;
+          sweep_fault P (length P.functions) c.loop-function.function _ (omega (arith, c.requires.fitting.function_count)) c.loop-function.invariant.0 c.in_err-takes.ensures.met;
       memory = tt;
     })
 
-pub overflow-add-takes : goal.overflow-add-takes
-overflow-add-takes c =
+pub overflow_add-takes : goal.overflow_add-takes
+overflow_add-takes c =
     let P : Program = program_of c.args.«package».now in
-    omega (arith, c.loop-function.invariant.1, c.loop-function.invariant.5, c.in-ok-takes.ensures.few, bytes_in P (length P.functions) c.loop-function.function (omega (arith, c.requires.fitting.function_count)), bytes_all P, c.requires.fitting.functions.little)
+    omega (arith, c.loop-function.invariant.1, c.loop-function.invariant.5, c.in_ok-takes.ensures.few, bytes_in P (length P.functions) c.loop-function.function (omega (arith, c.requires.fitting.function_count)), bytes_all P, c.requires.fitting.functions.little)
 
-pub overflow-add-from : goal.overflow-add-from
-overflow-add-from c =
+pub overflow_add-from : goal.overflow_add-from
+overflow_add-from c =
     let P : Program = program_of c.args.«package».now in
     omega (arith, ap length c.code.ensures.met, c.loop-function.invariant.1, bytes_in P (length P.functions) c.loop-function.function (omega (arith, c.requires.fitting.function_count)), bytes_all P, c.requires.fitting.functions.little)
 
@@ -60,16 +60,16 @@ loop-function-preserved c =
     let i : ℕ = c.loop-function.function in
     let part : ℕ → List ShapeRecord = λ g. map working_record (swept_table P g) in
     let e : c.loop-function.from + length c.code.result.now ≡ c.loop-function.from + length (code_at P i) = ap (λ code. c.loop-function.from + length code) c.code.ensures.met in (
-      below_more _ _ c.loop-function.invariant.0 (swept_is P i _ c.in-ok-takes.ensures.met),
+      below_more _ _ c.loop-function.invariant.0 (swept_is P i _ c.in_ok-takes.ensures.met),
       omega (arith, e, c.loop-function.invariant.1, bytes_more P i),
-      ap (λ n. take n c.sweep-part.new.table) e ∙
-          part_more part i c.loop-function.table c.sweep-part.new.table c.loop-function.from (length (code_at P i)) c.loop-function.invariant.2 c.sweep-part.ensures.before
-          c.in-ok-takes.ensures.part,
-      ap (λ n. drop n c.sweep-part.new.table) e ∙ c.sweep-part.ensures.after ∙
+      ap (λ n. take n c.sweep_part.new.table) e ∙
+          part_more part i c.loop-function.table c.sweep_part.new.table c.loop-function.from (length (code_at P i)) c.loop-function.invariant.2 c.sweep_part.ensures.before
+          c.in_ok-takes.ensures.part,
+      ap (λ n. drop n c.sweep_part.new.table) e ∙ c.sweep_part.ensures.after ∙
           rest_kept c.args.table.now c.loop-function.table c.loop-function.from (length (code_at P i)) c.loop-function.invariant.3 ∙
           ap (λ n. drop n c.args.table.now) (sym e),
-      ap (λ t. t + c.in-ok-takes.field-0) c.loop-function.invariant.4 ∙ sym (takes_more P i _ c.in-ok-takes.ensures.met),
-      omega (arith, e, c.loop-function.invariant.5, c.in-ok-takes.ensures.few),
+      ap (λ t. t + c.in_ok-takes.field-0) c.loop-function.invariant.4 ∙ sym (takes_more P i _ c.in_ok-takes.ensures.met),
+      omega (arith, e, c.loop-function.invariant.5, c.in_ok-takes.ensures.few),
     )
 
 pub returns : goal.returns

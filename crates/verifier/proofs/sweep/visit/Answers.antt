@@ -7,25 +7,25 @@ use Rattle.verifier.proofs.Spreading.{neat_set}
 use Rattle.verifier.proofs.Taking.{visit_undecoded, visit_refused, visit_spread, whole_settled, low_settled, settled_shape}
 use Rattle.verifier.proofs.sweep.visit.Goals as goal
 
-pub returns-in-default : goal.returns-in-default
-returns-in-default c =
+pub returns-in_default : goal.returns-in_default
+returns-in_default c =
     record {
       met =
           visit_undecoded (program_of c.args.«package».now) c.args.function c.args.table.now c.args.place
-          (ap (λ code. decode_at code c.args.place) (sym c.code.ensures.met) ∙ sym c.in-default.ensures.met);
+          (ap (λ code. decode_at code c.args.place) (sym c.code.ensures.met) ∙ sym c.in_default.ensures.met);
       neat = c.requires.neat;
       low = tt;
     }
 
-pub returns-in-err-apply : goal.returns-in-err-apply
-returns-in-err-apply c =
-    let p = err_from_is_err_and c.from-residual.result c.from-residual.ensures.1 in
+pub returns-in_err-apply : goal.returns-in_err-apply
+returns-in_err-apply c =
+    let p = err_from_is_err_and c.from_residual.result c.from_residual.ensures.1 in
     rw (p.1, p.2)
     (record {
       met =
           visit_refused (program_of c.args.«package».now) c.args.function c.args.table.now c.args.place c.in-Some.instruction _
           (ap (λ code. decode_at code c.args.place) (sym c.code.ensures.met) ∙ sym c.in-Some.ensures.met)
-          (ap (effect (program_of c.args.«package».now) c.args.function c.args.place c.in-Some.instruction) (sym (settled_shape c.args.table.now c.args.place c.requires.some)) ∙ c.in-err-apply.ensures.met);
+          (ap (effect (program_of c.args.«package».now) c.args.function c.args.place c.in-Some.instruction) (sym (settled_shape c.args.table.now c.args.place c.requires.some)) ∙ c.in_err-apply.ensures.met);
       neat = neat_set c.args.table.now c.args.place _ c.requires.neat (whole_settled _ (c.requires.neat c.args.place c.requires.some).tidy);
       low = tt;
     })
@@ -45,7 +45,7 @@ returns c =
       met =
           visit_spread (program_of c.args.«package».now) c.args.function c.args.table.now c.args.place c.in-Some.instruction _
           (ap (λ code. decode_at code c.args.place) (sym c.code.ensures.met) ∙ sym c.in-Some.ensures.met)
-          (ap (effect (program_of c.args.«package».now) c.args.function c.args.place c.in-Some.instruction) (sym (settled_shape c.args.table.now c.args.place c.requires.some)) ∙ c.in-ok-apply.ensures.met) ∙
+          (ap (effect (program_of c.args.«package».now) c.args.function c.args.place c.in-Some.instruction) (sym (settled_shape c.args.table.now c.args.place c.requires.some)) ∙ c.in_ok-apply.ensures.met) ∙
           c.spread.ensures.met;
       neat = c.spread.ensures.neat;
       low = c.spread.ensures.low;
