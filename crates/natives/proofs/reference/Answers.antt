@@ -7,7 +7,7 @@ use Rattle.checked.specs.Machine.{same_kind}
 use Rattle.runtime.specs.Runtime.{numbers_from}
 use Rattle.natives.proofs.Gathering.{found, numbers_turn, numbers_none}
 use Rattle.natives.proofs.reference.Goals as goal
-use Rattle.natives.proofs.reference.Goals.{then-same-kind+else-left-eq0, else-same-kind}
+use Rattle.natives.proofs.reference.Goals.{then-same_kind+else-left-eq0, else-same_kind}
 
 pub returns-then-left-eq0 : goal.returns-then-left-eq0
 returns-then-left-eq0 c =
@@ -16,7 +16,7 @@ returns-then-left-eq0 c =
     let i = c.loop-i.i in
     let n = c.requires.all in
     let a : i < length ks = omega arith in
-    let e : true ≡ same_kind (get_or ks i Unknown) Ref = c.if-same-kind.ensures ∙ ap (λ k. same_kind k Ref) c.native-argument-kind.ensures in
+    let e : true ≡ same_kind (get_or ks i Unknown) Ref = c.if-same_kind.ensures ∙ ap (λ k. same_kind k Ref) c.native_argument_kind.ensures in
     sym (c.loop-i.invariant ∙ numbers_turn ks mem i c.loop-i.left a
     ∙ ap₂ (λ t m. found t (get_or mem i 0) m (drop (i + 1) ks) mem (i + 1)) (sym e) c.if-left-eq0.true)
 
@@ -29,13 +29,13 @@ loop-i-preserved c =
     let a : i < length ks = omega arith in
     let turn = c.loop-i.invariant ∙ numbers_turn ks mem i c.loop-i.left a in
     let on = λ (t : Bool) (m : ℕ). found t (get_or mem i 0) m (drop (i + 1) ks) mem (i + 1) in
-    elim c.if-same-kind.branch [
-      | then-same-kind+else-left-eq0 w ↦
-          let e : true ≡ same_kind (get_or ks i Unknown) Ref = w.if-same-kind.ensures ∙ ap (λ k. same_kind k Ref) c.native-argument-kind.ensures in
-          let q : c.loop-i.left ≡ suc c.if-same-kind.left = omega (arith, w.left-is, w.if-left-eq0.false) in
+    elim c.if-same_kind.branch [
+      | then-same_kind+else-left-eq0 w ↦
+          let e : true ≡ same_kind (get_or ks i Unknown) Ref = w.if-same_kind.ensures ∙ ap (λ k. same_kind k Ref) c.native_argument_kind.ensures in
+          let q : c.loop-i.left ≡ suc c.if-same_kind.left = omega (arith, w.left-is, w.if-left-eq0.false) in
           turn ∙ ap₂ on (sym e) q
-      | else-same-kind w ↦
-          let e : false ≡ same_kind (get_or ks i Unknown) Ref = w.if-same-kind.ensures ∙ ap (λ k. same_kind k Ref) c.native-argument-kind.ensures in
+      | else-same_kind w ↦
+          let e : false ≡ same_kind (get_or ks i Unknown) Ref = w.if-same_kind.ensures ∙ ap (λ k. same_kind k Ref) c.native_argument_kind.ensures in
           turn ∙ ap₂ on (sym e) (sym w.left-is)
     ]
 

@@ -14,7 +14,7 @@ loop-i-preserved c =
     let a : i < length ks = omega arith in
     let b : i < length c.loop-i.told = omega arith in
     arguments_turn ks mem c.loop-i.told i c.argument.result a b c.loop-i.invariant
-    (c.argument.ensures ∙ ap (λ k. argument_of k (get_or mem i 0)) c.native-argument-kind.ensures)
+    (c.argument.ensures ∙ ap (λ k. argument_of k (get_or mem i 0)) c.native_argument_kind.ensures)
 
 pub returns : goal.returns
 returns c =

@@ -15,8 +15,8 @@ view-requires-2 c =
     let few : c.args.number ≤ l.callers = omega arith in
     let a = ap₂ (λ s n. get_or (entries s) (n - c.args.number) no_frame) c.len-callers.ensures.same c.len-callers.ensures.value in
     let b = ap (λ s. end_of (state_of (with_frames m s)) (c.args.number - 1)) (c.at-caller.ensures.same ∙ c.len-callers.ensures.same) in
-    let i = caller_inside (program_of c.args.program.now) l c.args.number c.end-of-end.result c.at-caller.result c.requires.framed some few
-    (c.at-caller.ensures.value no_frame ∙ a) (c.end-of-end.ensures.value ∙ b) in
+    let i = caller_inside (program_of c.args.program.now) l c.args.number c.end_of-end.result c.at-caller.result c.requires.framed some few
+    (c.at-caller.ensures.value no_frame ∙ a) (c.end_of-end.ensures.value ∙ b) in
     record { fitting = c.requires.fitting; there = i.0; ordered = i.1 }
 
 pub returns : goal.returns
@@ -28,7 +28,7 @@ returns c =
     let a = ap₂ (λ s n. get_or (entries s) (n - c.args.number) no_frame) c.len-callers.ensures.same c.len-callers.ensures.value in
     let b = ap (λ s. end_of (state_of (with_frames m s)) (c.args.number - 1)) (c.at-caller.ensures.same ∙ c.len-callers.ensures.same) in
     record {
-      value = ap Some c.view-2.ensures ∙ caller_shown (program_of c.args.program.now) l c.args.number c.end-of-end.result c.at-caller.result some few
-          (c.at-caller.ensures.value no_frame ∙ a) (c.end-of-end.ensures.value ∙ b);
+      value = ap Some c.view-2.ensures ∙ caller_shown (program_of c.args.program.now) l c.args.number c.end_of-end.result c.at-caller.result some few
+          (c.at-caller.ensures.value no_frame ∙ a) (c.end_of-end.ensures.value ∙ b);
       same = search rules;
     }

@@ -12,7 +12,7 @@ returns c =
     let P : Program = program_of c.args.program.now in
     let f = c.args.function in
     record {
-      met = c.call.ensures.met (function_at P f) (sym c.argument-count-arguments.ensures.met) (sym c.variables-variables.ensures.met)
+      met = c.call.ensures.met (function_at P f) (sym c.argument_count-arguments.ensures.met) (sym c.variables-variables.ensures.met)
           ∙ ap (called (state_of c.args.self.now) c.args.next f) (sym (nth_function P f c.requires.there));
       still = c.call.ensures.still;
     }
