@@ -28,8 +28,8 @@ fetch-instruction-requires g c =
       decodes = subst₂ (λ h p. is_some (decode_at (function_at P h).code p) ≡ true) function place (ap is_some f.decoded);
     }
 
-pub overflow-add-place : goal.overflow-add-place
-overflow-add-place g c =
+pub overflow_add-place : goal.overflow_add-place
+overflow_add-place g c =
     let P : Program = program_of c.args.program.now in
     let f = fetched P (state_of c.args.execution.now) c.requires.ready in
     let a = f.inside in
