@@ -1,5 +1,5 @@
 -- An instruction depends only on the bytes that it has.
-use Rattle.std.proofs.Common.{◌≡◌, ℕ, ◌+◌, ◌*◌, ◌≤◌, Bool, true, false, cond, eqb, leb, List, length, Some, None, Option, sym, refl, ap, ◌∙◌, ap₂, arith, w8, w16, to_z, leb-true}
+use Rattle.std.proofs.Common.{◌≡◌, ℕ, ◌+◌, ◌*◌, ◌≤◌, Bool, true, false, cond, eqb, leb, List, length, Some, None, Option, refl, ap, ◌∙◌, ap₂, arith, w8, w16, to_z, leb-true}
 use Rattle.bytecode.specs.declared.instruction.Order.TheVariants.{Less, GreaterOrEqual, Greater, LessOrEqual}
 use Rattle.bytecode.specs.declared.instruction.Instruction.{Instruction}
 use Rattle.bytecode.specs.declared.instruction.Instruction.TheVariants.{Aldc, Bipush, Ildc, Vload, Vstore, IfCmpeq, IfCmpne, IfIcmp, Goto, Invokestatic, Invokenative, New, Newarray, Aaddf}

@@ -1,7 +1,6 @@
 -- A program: what a package holds, together with the kinds of its sheet.
-use Rattle.std.specs.Prelude.{ℕ, List, [], ◌∷◌}
+use Rattle.std.specs.Prelude.{ℕ, List}
 use Rattle.bytecode.specs.declared.kind.Kind.{Kind}
-use Rattle.bytecode.specs.declared.kind.Kind.TheVariants.{Unknown, Word, Reference}
 
 -- the kinds of the arguments, the first first, and of the result
 pub record Signature : Type 0 where

@@ -1,6 +1,5 @@
 -- What an instruction comes to: a value, or a stop.
 use Rattle.std.specs.Prelude.{ℕ}
-use Rattle.bytecode.specs.declared.stop.HostFault.{HostFault}
 use Rattle.bytecode.specs.declared.stop.Stop.{Stop}
 use Rattle.bytecode.specs.declared.stop.Stop.TheVariants.{Divide, Null, Bounds, Array, Text, Alignment, Mark, Length, Cells, Calls, Host, Native}
 

@@ -101,7 +101,7 @@ fn line_print(rt: HostRuntime) {
     assert_eq!(rt; print(&mut line, b""), (0, 0));
     assert_eq!(rt; print(&mut line, b"x"), (3, 3));
     assert_eq!(rt; ask(&mut line, 16, &[NULL]), (0, 0));
-    assert_eq!(rt; line.written(), b"hiabc");
+    assert_eq!(rt; line.written(), b"hiabc".as_slice());
 }
 
 #[test]
@@ -113,7 +113,7 @@ fn line_numbers(rt: HostRuntime) {
     assert_eq!(rt; print_int(&mut line, 0xFFFF_FFF9), (0, 0));
     assert_eq!(rt; print_int(&mut line, 1000), (3, 3));
     assert_eq!(rt; print_int(&mut line, 90), (0, 0));
-    assert_eq!(rt; line.written(), b"-21474836480-790");
+    assert_eq!(rt; line.written(), b"-21474836480-790".as_slice());
 }
 
 #[test]
@@ -139,9 +139,9 @@ fn counter_adds(rt: HostRuntime) {
 #[test]
 fn texts(rt: HostRuntime) {
     let strings = b"one\0\0two\0";
-    assert_eq!(rt; find_text(strings, 0).bytes, b"one");
-    assert_eq!(rt; find_text(strings, 2).bytes, b"e");
+    assert_eq!(rt; find_text(strings, 0).bytes, b"one".as_slice());
+    assert_eq!(rt; find_text(strings, 2).bytes, b"e".as_slice());
     assert_eq!(rt; find_text(strings, 4).bytes.len(), 0);
-    assert_eq!(rt; find_text(strings, 5).bytes, b"two");
+    assert_eq!(rt; find_text(strings, 5).bytes, b"two".as_slice());
     assert_eq!(rt; find_text(strings, 9).bytes.len(), 0);
 }

@@ -9,97 +9,104 @@ mod tests {
     use std::test::Fail;
 
     // Loads `text` over eight bytes of AA, and compares how many were loaded and what the buffer holds then.
-    fn loads(rt: &impl Abort, text: &[u8], count: usize, after: [u8; 8]) -> Result<(), Fail> {
+    fn loads(rt: &impl Abort, case: &str, text: &[u8], count: usize, after: [u8; 8]) {
         let mut buffer = [0xAA; 8];
         match load(&mut HexText::new(text), &mut buffer) {
-            Ok(n) => {
-                assert_eq!(rt; (n, buffer), (count, after));
-                Ok(())
-            },
-            Err(fault) => {
-                assert_eq!(rt; fault.shown(), (0, 0, 0));
-                Ok(())
-            },
+            Ok(n) => assert_eq!(rt; (n, buffer), (count, after), "{case}"),
+            Err(fault) => assert_eq!(rt; fault.shown(), (0, 0, 0), "{case}"),
         }
     }
 
     // The same where the text is refused: its number, line and column, and a buffer that is all zero.
-    fn refuses(
-        rt: &impl Abort,
-        text: &[u8],
-        number: u8,
-        line: usize,
-        column: usize,
-    ) -> Result<(), Fail> {
+    fn refuses(rt: &impl Abort, case: &str, text: &[u8], number: u8, line: usize, column: usize) {
         let mut buffer = [0xAA; 8];
         match load(&mut HexText::new(text), &mut buffer) {
-            Ok(n) => {
-                assert_eq!(rt; (0, n, 0), (number, line, column));
-                Ok(())
-            },
+            Ok(n) => assert_eq!(rt; (0, n, 0), (number, line, column), "{case}"),
             Err(fault) => {
-                assert_eq!(rt; (fault.shown(), buffer), ((number, line, column), [0; 8]));
-                Ok(())
-            },
+                assert_eq!(rt;
+                    (fault.shown(), buffer),
+                    ((number, line, column), [0; 8]),
+                    "{case}"
+                );
+            }
         }
     }
 
     #[test]
-    fn texts_that_load(rt: HostRuntime) -> Result<(), Fail> {
-        loads(&rt, b"", 0, [0xAA; 8]).note("empty")?;
-        loads(&rt, b" \t\r\n", 0, [0xAA; 8]).note("blanks alone")?;
-        loads(&rt, b"# nothing", 0, [0xAA; 8]).note("a comment that ends with the text")?;
+    fn texts_that_load(rt: HostRuntime) {
+        loads(&rt, "empty", b"", 0, [0xAA; 8]);
+        loads(&rt, "blanks alone", b" \t\r\n", 0, [0xAA; 8]);
         loads(
             &rt,
+            "a comment that ends with the text",
+            b"# nothing",
+            0,
+            [0xAA; 8],
+        );
+        loads(
+            &rt,
+            "both cases",
             b"C0c0fFEe",
             4,
             [0xC0, 0xC0, 0xFF, 0xEE, 0xAA, 0xAA, 0xAA, 0xAA],
-        )
-        .note("both cases")?;
+        );
         loads(
             &rt,
+            "first and last digits",
             b"09 AF\taf",
             3,
             [0x09, 0xAF, 0xAF, 0xAA, 0xAA, 0xAA, 0xAA, 0xAA],
-        )
-        .note("first and last digits")?;
+        );
         loads(
             &rt,
+            "0D 0A",
             b"12\r\n34\r\n",
             2,
             [0x12, 0x34, 0xAA, 0xAA, 0xAA, 0xAA, 0xAA, 0xAA],
-        )
-        .note("0D 0A")?;
+        );
         loads(
             &rt,
+            "only 0A ends a comment",
             b"12# 34\r56\n78#",
             2,
             [0x12, 0x78, 0xAA, 0xAA, 0xAA, 0xAA, 0xAA, 0xAA],
-        )
-        .note("only 0A ends a comment")?;
-        loads(&rt, b"0102030405060708", 8, [1, 2, 3, 4, 5, 6, 7, 8]).note("full")?;
+        );
         loads(
             &rt,
+            "full",
+            b"0102030405060708",
+            8,
+            [1, 2, 3, 4, 5, 6, 7, 8],
+        );
+        loads(
+            &rt,
+            "full, then blanks and a comment",
             b"0102030405060708 \t# full\n",
             8,
             [1, 2, 3, 4, 5, 6, 7, 8],
-        )
-        .note("full, then blanks and a comment")
+        );
     }
 
     #[test]
-    fn texts_that_are_refused(rt: HostRuntime) -> Result<(), Fail> {
-        refuses(&rt, b"12 C 0", 2, 1, 4).note("a digit before a blank")?;
-        refuses(&rt, b"12 C#0", 2, 1, 4).note("before a comment")?;
-        refuses(&rt, b"12 CG", 2, 1, 4).note("before a bad character")?;
-        refuses(&rt, b"12C", 2, 1, 3).note("at the end")?;
-        refuses(&rt, b"12\nC\n0", 2, 2, 1).note("before a line's end")?;
-        refuses(&rt, b"12\r\n# x\n\t:", 1, 3, 2).note("a bad character")?;
-        refuses(&rt, b"12\r34\rx", 1, 1, 7).note("0D ends no line")?;
-        refuses(&rt, b"\x80", 1, 1, 1).note("a byte past ASCII")?;
-        refuses(&rt, b"0102030405060708\n 09", 3, 2, 2).note("full, then a byte")?;
-        refuses(&rt, b"0102030405060708 9", 2, 1, 18).note("full, then a digit")?;
-        refuses(&rt, b"0102030405060708 x", 1, 1, 18).note("full, then a bad character")
+    fn texts_that_are_refused(rt: HostRuntime) {
+        refuses(&rt, "a digit before a blank", b"12 C 0", 2, 1, 4);
+        refuses(&rt, "before a comment", b"12 C#0", 2, 1, 4);
+        refuses(&rt, "before a bad character", b"12 CG", 2, 1, 4);
+        refuses(&rt, "at the end", b"12C", 2, 1, 3);
+        refuses(&rt, "before a line's end", b"12\nC\n0", 2, 2, 1);
+        refuses(&rt, "a bad character", b"12\r\n# x\n\t:", 1, 3, 2);
+        refuses(&rt, "0D ends no line", b"12\r34\rx", 1, 1, 7);
+        refuses(&rt, "a byte past ASCII", b"\x80", 1, 1, 1);
+        refuses(&rt, "full, then a byte", b"0102030405060708\n 09", 3, 2, 2);
+        refuses(&rt, "full, then a digit", b"0102030405060708 9", 2, 1, 18);
+        refuses(
+            &rt,
+            "full, then a bad character",
+            b"0102030405060708 x",
+            1,
+            1,
+            18,
+        );
     }
 
     #[test]
@@ -130,19 +137,13 @@ mod tests {
     }
 
     #[test]
-    fn raw_bytes(rt: HostRuntime) -> Result<(), Fail> {
+    fn raw_bytes(rt: HostRuntime) {
         let mut buffer = [0xAA; 3];
         assert!(rt; matches!(load(&mut Raw::new(&[1, 2]), &mut buffer), Ok(2)));
         assert_eq!(rt; buffer, [1, 2, 0xAA]);
         match load(&mut Raw::new(&[1, 2, 3, 4]), &mut buffer) {
-            Ok(n) => {
-                assert_eq!(rt; (0, n, 0), (3, 0, 3));
-                Ok(())
-            },
-            Err(fault) => {
-                assert_eq!(rt; (fault.shown(), buffer), ((3, 0, 3), [0; 3]));
-                Ok(())
-            },
+            Ok(n) => assert_eq!(rt; (0, n, 0), (3, 0, 3)),
+            Err(fault) => assert_eq!(rt; (fault.shown(), buffer), ((3, 0, 3), [0; 3])),
         }
     }
 
@@ -158,6 +159,7 @@ mod tests {
     // A text of `digits` digits 1 over a buffer of `size` bytes AA: how many bytes of 11, or the fault with a zero buffer.
     fn many(
         rt: &(impl Abort + AllocGlobal),
+        case: &str,
         digits: usize,
         size: usize,
         loaded: Result<usize, (u8, usize, usize)>,
@@ -167,29 +169,40 @@ mod tests {
         let bytes = buffer.as_mut_slice();
         match load(&mut HexText::new(&text), bytes) {
             Ok(n) => {
-                assert_eq!(rt; Ok(n), loaded);
-                assert!(rt; n <= bytes.len());
-                assert!(rt; filled_with(&bytes[0..n], 0x11));
-                assert!(rt; filled_with(&bytes[n..], 0xAA));
-                Ok(())
+                assert_eq!(rt; Ok(n), loaded, "{case}");
+                assert!(rt; n <= bytes.len(), "{case}");
+                assert!(rt; filled_with(&bytes[0..n], 0x11), "{case}");
+                assert!(rt; filled_with(&bytes[n..], 0xAA), "{case}");
             }
             Err(fault) => {
-                assert_eq!(rt; Err(fault.shown()), loaded);
-                assert!(rt; filled_with(bytes, 0));
-                Ok(())
+                assert_eq!(rt; Err(fault.shown()), loaded, "{case}");
+                assert!(rt; filled_with(bytes, 0), "{case}");
             }
         }
+        Ok(())
     }
 
     #[test]
     fn limits(rt: HostRuntime) -> Result<(), Fail> {
-        many(&rt, 0, 0, Ok(0)).note("no buffer")?;
-        many(&rt, 2, 0, Err((3, 1, 1))).note("no buffer, a byte")?;
-        many(&rt, 200, 100, Ok(100)).note("a short buffer, full")?;
-        many(&rt, 202, 100, Err((3, 1, 201))).note("a short buffer, one too many")?;
-        many(&rt, 32768, 16384, Ok(16384)).note("the limit")?;
-        many(&rt, 32768, 16400, Ok(16384)).note("the limit in a longer buffer")?;
-        many(&rt, 32769, 16400, Err((2, 1, 32769))).note("the limit, then a digit")?;
-        many(&rt, 32770, 16400, Err((3, 1, 32769))).note("one past the limit")
+        many(&rt, "no buffer", 0, 0, Ok(0))?;
+        many(&rt, "no buffer, a byte", 2, 0, Err((3, 1, 1)))?;
+        many(&rt, "a short buffer, full", 200, 100, Ok(100))?;
+        many(
+            &rt,
+            "a short buffer, one too many",
+            202,
+            100,
+            Err((3, 1, 201)),
+        )?;
+        many(&rt, "the limit", 32768, 16384, Ok(16384))?;
+        many(&rt, "the limit in a longer buffer", 32768, 16400, Ok(16384))?;
+        many(
+            &rt,
+            "the limit, then a digit",
+            32769,
+            16400,
+            Err((2, 1, 32769)),
+        )?;
+        many(&rt, "one past the limit", 32770, 16400, Err((3, 1, 32769)))
     }
 }
