@@ -1,4 +1,6 @@
 // Times the stack and the memory of the machine: `bench measure` prints nanoseconds for each of ten million turns.
+#![tactic(auto)]
+
 ghost use Rattle.std.specs.Prelude.{◌^◌, ◌<◌, length};
 
 use cells::memory::Memory;

@@ -1,3 +1,5 @@
+#![tactic(auto)]
+
 // Cases of the memory instructions: sizes of blocks, ends of data, marks, and each stop with its order.
 #[cfg(test)]
 mod tests {

@@ -1,24 +1,20 @@
 -- A host's behaviour does what the host does.
-use Rattle.std.proofs.Common.{◌≡◌, ℕ, zero, suc, ◌+◌, Bool, true, false, cond, not, eqb, ltb, leb, List, [], ◌∷◌, map, length, ℤ, Some, None, Option, sym, refl, ap, ◌∙◌, subst, ap₂, subst₂}
+use Rattle.std.proofs.Common.{◌≡◌, ℕ, zero, suc, ◌+◌, Bool, true, false, cond, not, eqb, ltb, leb, List, [], ◌∷◌, length, ℤ, Some, None, Option, sym, refl, ap, ◌∙◌, subst}
 use Rattle.bytecode.specs.declared.kind.Kind.{Kind}
 use Rattle.bytecode.specs.declared.kind.Kind.TheVariants.{Unknown, Word, Reference as Ref}
-use Rattle.bytecode.specs.declared.stop.Stop.TheVariants.{Calls, Native as NoNative}
 use Rattle.bytecode.specs.declared.instruction.Instruction.{Instruction}
 use Rattle.bytecode.specs.declared.instruction.Instruction.TheVariants.{Nop, Pop, Dup, Swap, AconstNull, Aldc, Bipush, Ildc, Vload, Vstore, Binary, IfCmpeq, IfCmpne, IfIcmp, Goto, Invokestatic, Invokenative, Return, New, Newarray, Arraylength, Aaddf, Aadds, Imload, Cmload, Amload, Imstore, Cmstore, Amstore}
 use Rattle.bytecode.specs.Instructions.{size_of, decode_at, target}
-use Rattle.bytecode.specs.Program.{Program, Function, Native, Signature}
+use Rattle.bytecode.specs.Program.{Program, Native}
 use Rattle.bytecode.specs.Stops.{Attempt, gives, stops}
 use Rattle.heap.specs.Checked.{Heap, Reference, null, new, newarray, arraylength, aaddf, aadds, imload, cmload, amload, imstore, cmstore, amstore}
 use Rattle.word.specs.Words.{compute, holds}
-use Rattle.host.specs.Hosts.{Host, Call, Lawful, Suits, fits, fitting}
-use Rattle.host.specs.declared.call.Reply
+use Rattle.host.specs.Hosts.{Host, Call, Lawful, fitting}
 use Rattle.host.specs.declared.call.Reply.{Reply}
 use Rattle.plan.specs.Programs.{nth}
 use Rattle.checked.specs.Runs.{Next, goes, ends, stops as halts, breaks, Status, live, ended, stopped, broken, Served, after, advance, iterate}
-use Rattle.checked.specs.Machine.{Value, word, reference, kind_of, Frame, frame, Conf, conf, Sizes, reserve, reserved, agrees, is_kind, Taken, taken, short, arguments, argument_of, call_of, references, variable, pop_word, pop_reference, pop_any, room_for, attempt, found, compared, took_arguments, only_value, resume, branch, enter, return, answered, ask, exec, step, same_reference}
+use Rattle.checked.specs.Machine.{Value, word, reference, Frame, frame, Conf, conf, Sizes, reserve, reserved, agrees, is_kind, Taken, taken, short, arguments, call_of, references, variable, pop_word, pop_reference, pop_any, attempt, found, compared, took_arguments, only_value, resume, branch, return, answered, ask, exec, step, same_reference}
 use Rattle.checked.specs.Behaviour.{reached, behaviour, Behaves}
-use Rattle.checked.proofs.Pieces.{agrees_is}
-use Rattle.checked.proofs.Stacking.{arguments_fit}
 
 module _ {S : Type 0} (host : Host S) (s : S) where
   -- the same outcome, the host's state being the one reached

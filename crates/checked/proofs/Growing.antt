@@ -1,16 +1,16 @@
 -- More memory changes a step only where it is stop 9 or 10.
-use Rattle.std.proofs.Common.{◌≡◌, ℕ, suc, ◌+◌, ◌^◌, ◌≤◌, Bool, true, false, cond, ltb, leb, ◌⊎◌, List, [], ◌∷◌, ◌++◌, length, Some, None, Option, sym, refl, ap, ap₂, inl, inr, arith, ltb-true, lt-ltb, le-leb, leb-true}
+use Rattle.std.proofs.Common.{◌≡◌, ℕ, suc, ◌+◌, ◌^◌, ◌≤◌, Bool, true, false, cond, ltb, leb, ◌⊎◌, List, [], ◌∷◌, ◌++◌, length, Some, None, Option, sym, refl, ap₂, inl, inr, arith, ltb-true, lt-ltb, le-leb, leb-true}
 use Rattle.bytecode.specs.declared.instruction.Instruction.{Instruction}
 use Rattle.bytecode.specs.declared.instruction.Instruction.TheVariants.{Nop, Pop, Dup, Swap, AconstNull, Aldc, Bipush, Ildc, Vload, Vstore, Binary, IfCmpeq, IfCmpne, IfIcmp, Goto, Invokestatic, Invokenative, Return, New, Newarray, Arraylength, Aaddf, Aadds, Imload, Cmload, Amload, Imstore, Cmstore, Amstore}
 use Rattle.bytecode.specs.Instructions.{size_of, decode_at}
 use Rattle.bytecode.specs.Program.{Program, Function}
 use Rattle.bytecode.specs.declared.stop.Stop.TheVariants.{Cells, Length}
-use Rattle.bytecode.specs.Stops.{Attempt, gives, stops}
+use Rattle.bytecode.specs.Stops.{gives, stops}
 use Rattle.heap.specs.Checked.{Heap, Layout, single, array, room, total, fresh, block, Allocation, allocate, newarray}
 use Rattle.host.specs.Hosts.{Host}
 use Rattle.plan.specs.Programs.{nth}
 use Rattle.checked.specs.Runs.{Next, breaks}
-use Rattle.checked.specs.Machine.{Value, word, reference, Frame, frame, Conf, conf, Sizes, reserve, reserved, Taken, taken, short, arguments, pop_word, room_for, attempt, found, took_arguments, enter, resume, exec, step}
+use Rattle.checked.specs.Machine.{Value, word, reference, Frame, frame, Conf, conf, Sizes, reserve, reserved, Taken, taken, short, arguments, pop_word, room_for, attempt, found, took_arguments, enter, exec, step}
 use Rattle.checked.specs.Law.{NoLess}
 use Rattle.checked.proofs.Running.{Capped}
 

@@ -1,15 +1,15 @@
 -- Entries of pools, kinds that are the same, and what variables hold.
-use Rattle.std.proofs.Common.{◌≡◌, ℕ, zero, suc, ◌+◌, ◌-◌, ◌<◌, ◌≤◌, Bool, true, false, cond, eqb, List, [], ◌∷◌, ◌++◌, map, length, get_or, set, replicate, Some, None, Option, sym, refl, ap, ◌∙◌, subst, subst₂, inl, inr, arith, length-append, get_or-set_other, get_or-set_same, eqb-true}
+use Rattle.std.proofs.Common.{◌≡◌, ℕ, zero, suc, ◌-◌, ◌<◌, ◌≤◌, Bool, true, false, cond, eqb, List, [], ◌∷◌, ◌++◌, map, length, get_or, set, replicate, Some, None, Option, sym, refl, ap, subst, subst₂, inl, inr, arith, length-append, get_or-set_other, get_or-set_same, eqb-true}
 use lib.ListN.{length-replicate}
 use borrow.Author.Tests.{eqb-false}
 use Rattle.bytecode.specs.declared.kind.Kind.{Kind}
 use Rattle.bytecode.specs.declared.kind.Kind.TheVariants.{Unknown, Word, Reference as Ref}
 use Rattle.bytecode.specs.Program.{Signature}
 use Rattle.plan.specs.Programs.{nth}
-use Rattle.plan.specs.Shapes.{Shape, Alike, Reach}
+use Rattle.plan.specs.Shapes.{Shape, Reach}
 use Rattle.plan.specs.Plans.{Hits}
 use Rattle.checked.specs.Machine.{Value, word, reference, kind_of, variable, same_kind, same_kinds, agrees}
-use Rattle.checked.specs.Sound.{HasKind, Held, Holding}
+use Rattle.checked.specs.Sound.{Held, Holding}
 
 -- ## Pools
 

@@ -1,8 +1,7 @@
 -- Laws of runs, for any machine: allowances add up, a machine that is over stays so, and more memory changes only stops 9 and 10.
-use Rattle.std.proofs.Common.{◌≡◌, ℕ, zero, suc, ◌+◌, ◌-◌, ◌<◌, ◌≤◌, ◌⊎◌, List, [], ◌∷◌, sym, refl, ap, ◌∙◌, subst, inl, inr, suc-add, zero-add, arith}
-use Rattle.bytecode.specs.declared.stop.Stop.{Stop}
+use Rattle.std.proofs.Common.{◌≡◌, ℕ, zero, suc, ◌+◌, ◌-◌, ◌≤◌, ◌⊎◌, List, [], ◌∷◌, sym, refl, ap, ◌∙◌, subst, inl, inr, suc-add, zero-add, arith}
 use Rattle.host.specs.Hosts.{Host}
-use Rattle.checked.specs.Runs.{Next, goes, ends, stops, breaks, Status, live, ended, stopped, broken, Served, served, after, advance, iterate, Turn, run, look, allowance, serve, Machine, handle_all, threaded, Lasting}
+use Rattle.checked.specs.Runs.{Next, goes, ends, stops, breaks, Status, live, ended, stopped, broken, served, after, advance, iterate, Turn, run, look, allowance, serve, Machine, handle_all, threaded, Lasting}
 
 -- a machine that makes no more steps
 abbrev pub Over : {C : Type 0} → Status C → Type 0

@@ -1,27 +1,27 @@
 -- A step of a sound configuration does not break, and what it goes on to is sound.
-use Rattle.std.proofs.Common.{◌≡◌, ℕ, zero, suc, ◌+◌, ◌-◌, ◌<◌, ◌≤◌, Bool, true, false, cond, not, eqb, ltb, leb, List, [], ◌∷◌, ◌++◌, map, reverse, length, get_or, set, replicate, ℤ, Some, None, Option, sym, refl, ap, ◌∙◌, subst, arith, length-set, ltb-true, lt-ltb}
+use Rattle.std.proofs.Common.{◌≡◌, ℕ, suc, ◌+◌, ◌-◌, ◌<◌, ◌≤◌, Bool, true, false, cond, not, eqb, ltb, leb, List, [], ◌∷◌, ◌++◌, map, reverse, length, set, replicate, ℤ, Some, None, Option, sym, refl, ap, ◌∙◌, subst, arith, length-set, ltb-true, lt-ltb}
 use Rattle.bytecode.specs.declared.kind.Kind.{Kind}
 use Rattle.bytecode.specs.declared.kind.Kind.TheVariants.{Unknown, Word, Reference as Ref}
 use Rattle.bytecode.specs.declared.stop.Stop.TheVariants.{Native as NoNative}
 use Rattle.bytecode.specs.declared.instruction.Instruction.{Instruction}
 use Rattle.bytecode.specs.declared.instruction.Instruction.TheVariants.{Nop, Pop, Dup, Swap, AconstNull, Aldc, Bipush, Ildc, Vload, Vstore, Binary, IfCmpeq, IfCmpne, IfIcmp, Goto, Invokestatic, Invokenative, Return, New, Newarray, Arraylength, Aaddf, Aadds, Imload, Cmload, Amload, Imstore, Cmstore, Amstore}
 use Rattle.bytecode.specs.Instructions.{size_of, decode_at, target}
-use Rattle.bytecode.specs.Outcome.{Out, bad, good}
-use Rattle.bytecode.specs.Program.{Program, Function, Native, Signature}
+use Rattle.bytecode.specs.Outcome.{good}
+use Rattle.bytecode.specs.Program.{Program, Function, Native}
 use Rattle.bytecode.specs.Stops.{Attempt, gives, stops}
-use Rattle.heap.specs.Checked.{Heap, Reference, null, text, block, new, newarray, arraylength, aaddf, aadds, imload, cmload, amload, imstore, cmstore, amstore}
+use Rattle.heap.specs.Checked.{Heap, Reference, null, text, new, newarray, arraylength, aaddf, aadds, imload, cmload, amload, imstore, cmstore, amstore}
 use Rattle.word.specs.Words.{compute, holds, wrap}
 use Rattle.host.specs.Hosts.{Host, Call, Lawful, Suits, fits}
 use Rattle.host.specs.declared.call.Reply.{Reply}
 use Rattle.plan.specs.Programs.{nth, function_at, variables_at, no_function}
-use Rattle.plan.specs.Shapes.{Shape, Reach}
+use Rattle.plan.specs.Shapes.{Shape}
 use Rattle.plan.specs.Effects.{effect, fixed, perform, performed, within, call_static, call_native}
-use Rattle.plan.specs.Plans.{Plan, Hits, Lands, successors, shape_at, entry_of, Good, Passes}
+use Rattle.plan.specs.Plans.{Hits, Lands, successors, shape_at, entry_of, Good}
 use Rattle.checked.specs.Runs.{Next, goes, ends, stops as halts, breaks}
 use Rattle.checked.specs.Machine.{Value, word, reference, kind_of, Frame, frame, Conf, conf, Sizes, reserve, reserved, agrees, is_kind, Taken, taken, arguments, call_of, references, argument_of, variable, pop_word, pop_reference, pop_any, room_for, attempt, found, compared, took_arguments, only_value, resume, branch, enter, return, answered, ask, exec, step, same_reference}
 use Rattle.checked.specs.Law.{Plans, Accepted}
 use Rattle.checked.specs.Sound.{Held, Holding, Fits, Callers, main, more, Sound}
-use Rattle.checked.proofs.Stacking.{Kinded, bare, words, refs, kinded_at, kinds_are, kinded_length, Replaced, replaced, loads, stores, pops, doubles, swaps, pairs, gives_result, Given, given, is_kind_lem, arguments_fit, count_references_lem}
+use Rattle.checked.proofs.Stacking.{Kinded, bare, words, refs, kinded_at, kinds_are, Replaced, replaced, loads, stores, pops, doubles, swaps, pairs, gives_result, Given, given, is_kind_lem, arguments_fit, count_references_lem}
 use Rattle.checked.proofs.Pieces.{nth-get_or, nth_within, nth_some, length-map, agrees_is, held_value, holding_reach, holding_set, entry_holding, entry_length, hits_shape}
 
 module _ (P : Program) (plans : Plans) where

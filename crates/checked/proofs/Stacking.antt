@@ -1,16 +1,16 @@
 -- What an instruction's effect on a shape says of the values on the stack, and the arguments of a call.
-use Rattle.std.proofs.Common.{◌≡◌, ℕ, suc, ◌<◌, ◌≤◌, Bool, true, false, cond, ltb, leb, List, [], ◌∷◌, ◌++◌, map, reverse, length, get_or, take, drop, set, Some, None, Option, sym, refl, ap, ◌∙◌, subst, append_assoc, arith, take-append-drop, ltb-true, leb-true}
+use Rattle.std.proofs.Common.{◌≡◌, ℕ, suc, ◌<◌, ◌≤◌, Bool, true, false, cond, ltb, leb, List, [], ◌∷◌, ◌++◌, map, reverse, length, get_or, take, drop, set, sym, refl, ap, ◌∙◌, subst, append_assoc, arith, take-append-drop, ltb-true, leb-true}
 use Rattle.bytecode.specs.declared.kind.Kind.{Kind}
 use Rattle.bytecode.specs.declared.kind.Kind.TheVariants.{Unknown, Word, Reference as Ref}
-use Rattle.bytecode.specs.Outcome.{Fault, Out, bad, good}
+use Rattle.bytecode.specs.Outcome.{Fault, bad, good}
 use Rattle.heap.specs.Checked.{Reference, null, text, block}
 use Rattle.std.proofs.lemmas.List.{reverse-append, reverse-reverse, append-nil}
 use Rattle.bytecode.specs.Program.{Signature}
 use Rattle.host.specs.Hosts.{fits, is_of, references as count_references}
 use Rattle.plan.specs.Shapes.{Shape, eq_kind, eq_kinds}
-use Rattle.plan.specs.Effects.{Act, fixed, load, store, pop, dup, swap, alike, give, perform, keeping, check, room, loaded, stored, popped, doubled, swapped, compared, returned}
+use Rattle.plan.specs.Effects.{fixed, load, store, pop, dup, swap, alike, give, perform, keeping, check, room, loaded, stored, popped, doubled, swapped, compared, returned}
 use Rattle.plan.proofs.Reaching.{eq_kind-is, eq_kinds-is}
-use Rattle.checked.specs.Machine.{Value, word, reference, kind_of, is_kind, Taken, taken, short, takes, arguments, argument_of, references}
+use Rattle.checked.specs.Machine.{Value, word, reference, kind_of, is_kind, taken, short, takes, arguments, argument_of, references}
 
 -- ## Values with kinds
 

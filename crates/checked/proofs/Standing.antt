@@ -1,16 +1,15 @@
 -- The law over every list of requests, from what one step keeps and from the laws of runs.
-use Rattle.std.proofs.Common.{◌≡◌, ℕ, zero, suc, ◌+◌, ◌-◌, ◌<◌, ◌≤◌, List, [], ◌∷◌, ◌++◌, map, length, replicate, Some, None, Option, sym, refl, ap, ◌∙◌, subst, arith}
+use Rattle.std.proofs.Common.{ℕ, zero, suc, ◌-◌, List, [], ◌∷◌, ◌++◌, length, replicate, None, Option, sym, refl, ap, ◌∙◌, subst}
 use lib.ListN.{length-replicate}
 use Rattle.bytecode.specs.declared.kind.Kind.TheVariants.{Unknown}
-use Rattle.bytecode.specs.declared.stop.Stop.{Stop}
-use Rattle.bytecode.specs.Program.{Program, Function}
+use Rattle.bytecode.specs.Program.{Program}
 use Rattle.host.specs.Hosts.{Host, Lawful}
-use Rattle.plan.specs.Programs.{nth, function_at, variables_at, no_function}
+use Rattle.plan.specs.Programs.{function_at, variables_at, no_function}
 use Rattle.plan.specs.Plans.{entry_of}
-use Rattle.checked.specs.Runs.{Next, goes, ends, stops, breaks, Status, live, ended, stopped, broken, Served, served, after, advance, iterate, Request, run, look, handle, handle_all, Turn, allowance, serve, Lasting}
-use Rattle.checked.specs.Machine.{Value, kind_of, Frame, frame, Conf, conf, Sizes, step, begins, checked_machine}
-use Rattle.checked.specs.Law.{Plans, Accepted, NoLess, Shows, Await, Planned, Kept, KeepsLaws, AllKeepLaws, begun, Law}
-use Rattle.checked.specs.Sound.{Holding, Fits, Callers, main, more, Sound}
+use Rattle.checked.specs.Runs.{Next, goes, ends, stops, breaks, Status, live, ended, stopped, broken, after, advance, iterate, Request, run, look, handle, handle_all}
+use Rattle.checked.specs.Machine.{Value, Frame, frame, Conf, conf, Sizes, step, begins, checked_machine}
+use Rattle.checked.specs.Law.{Plans, Accepted, Await, Planned, Kept, KeepsLaws, AllKeepLaws, begun, Law}
+use Rattle.checked.specs.Sound.{Holding, Callers, main, more, Sound}
 use Rattle.checked.proofs.Running.{iterate_add, threads, twins}
 use Rattle.checked.proofs.Growing.{step_grows}
 use Rattle.checked.proofs.Pieces.{nth-get_or, nth_some, entry_holding}

@@ -8,8 +8,8 @@ use Rattle.host.specs.Hosts.{Host, Lawful}
 use Rattle.plan.specs.Programs.{function_at, variables_at, WellFormed}
 use Rattle.plan.specs.Shapes.{Shape}
 use Rattle.plan.specs.Plans.{Plan, Fullest}
-use Rattle.checked.specs.Runs.{Status, live, ended, stopped, broken, Served, served, iterate, Request, run, look, handle_all, Turn, allowance, serve, threaded, Lasting}
-use Rattle.checked.specs.Machine.{Value, kind_of, Frame, frame, Conf, conf, Sizes, step, begins, checked_machine}
+use Rattle.checked.specs.Runs.{Status, live, ended, stopped, broken, served, iterate, Request, run, look, handle_all, Turn, allowance, serve, threaded, Lasting}
+use Rattle.checked.specs.Machine.{kind_of, Frame, frame, Conf, conf, Sizes, step, begins, checked_machine}
 
 -- ## Accepted programs, and where they may be started
 

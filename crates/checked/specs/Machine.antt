@@ -1,6 +1,6 @@
 -- The checked machine: every value carries its kind, variables may be unset, and whatever does not fit is a broken stop.
 -- It knows nothing of plans or of how memory is laid out.
-use Rattle.std.specs.Prelude.{ℕ, zero, suc, ◌+◌, ◌-◌, Bool, true, false, cond, not, List, [], ◌∷◌, ◌++◌, map, reverse, length, set, replicate, ℤ, Some, None, Option, ◌==◌, nat_le, nat_lt, slice_index_or, slice_set}
+use Rattle.std.specs.Prelude.{ℕ, suc, ◌+◌, ◌-◌, Bool, true, false, cond, not, List, [], ◌∷◌, ◌++◌, map, reverse, length, replicate, ℤ, Some, None, Option, ◌==◌, nat_le, nat_lt, slice_index_or, slice_set}
 use Rattle.bytecode.specs.declared.kind.Kind.{Kind}
 use Rattle.bytecode.specs.declared.kind.Kind.TheVariants.{Unknown, Word, Reference as Ref}
 use Rattle.bytecode.specs.declared.stop.Stop.TheVariants.{Calls, Native as NoNative, Host as ByHost}
@@ -13,9 +13,7 @@ use Rattle.plan.specs.Programs.{nth}
 use Rattle.heap.specs.Checked.{Heap, Reference, null, text, block, new, newarray, arraylength, aaddf, aadds, imload, cmload, amload, imstore, cmstore, amstore}
 use Rattle.word.specs.Words.{compute, holds, wrap}
 use Rattle.host.specs.Hosts.{Host, Call, Text, no_text, text_at}
-use Rattle.host.specs.declared.call.Argument
 use Rattle.host.specs.declared.call.Argument.{Argument}
-use Rattle.host.specs.declared.call.Reply
 use Rattle.host.specs.declared.call.Reply.{Reply}
 use Rattle.checked.specs.Runs.{Next, goes, ends, stops as halts, breaks, View, Machine}
 

@@ -1,20 +1,19 @@
 -- Worked examples, computed by the definitions: plans by the judge, runs by the checked machine.
-use Rattle.std.specs.Prelude.{◌≡◌, ℕ, List, [], ◌∷◌, pos, negsuc, Some, None}
+use Rattle.std.specs.Prelude.{◌≡◌, ℕ, List, [], ◌∷◌, negsuc, Some, None}
 use Rattle.bytecode.specs.declared.kind.Kind.TheVariants.{Unknown, Word, Reference}
 use Rattle.bytecode.specs.declared.stop.Stop.TheVariants.{Divide, Cells}
 use Rattle.bytecode.specs.declared.instruction.Instruction.TheVariants.{Goto}
 use Rattle.bytecode.specs.Instructions.{instruction_of, target}
 use Rattle.bytecode.specs.Outcome.{good}
 use Rattle.bytecode.specs.Program.{Program}
-use Rattle.bytecode.specs.Stops.{gives}
-use Rattle.heap.specs.Checked.{Heap, block, single, array, room, newarray, total, Allocation}
+use Rattle.heap.specs.Checked.{single, array, room}
 use Rattle.host.specs.Hosts.{Host, stop_with}
 use Rattle.plan.specs.Shapes.{changed, merge}
 use Rattle.plan.specs.Sweep.{off, judge}
 use Rattle.plan.specs.Samples.{giving, main_of, shaped, stacked}
 use Rattle.word.specs.Words.{wrap}
-use Rattle.checked.specs.Runs.{Status, live, ended, Answer, continues, ends, stops, Response, respond, run}
-use Rattle.checked.specs.Machine.{Sizes, begins, checked_machine}
+use Rattle.checked.specs.Runs.{live, Answer, continues, ends, stops, respond, run}
+use Rattle.checked.specs.Machine.{begins, checked_machine}
 
 -- a host without natives
 abbrev pub no_host : Host (Unit {0})

@@ -1,4 +1,6 @@
 // The checked machine, against which every run is measured, and what accepted programs are owed of it.
+#![tactic(auto)]
+
 ghost use Rattle.bytecode.specs.Program.{Program};
 ghost use Rattle.host.specs.Hosts.{Host, Lawful};
 ghost use Rattle.checked.specs.Behaviour.{Behaves};

@@ -1,5 +1,7 @@
 // Runs a program given as hex text on standard input. The arguments are the sizes of its memory, its host, and the runs and looks
 // that are asked for. Prints what each call answers, and what the host holds in the end.
+#![tactic(auto)]
+
 ghost use Rattle.verifier.specs.Checking.{Checked};
 
 use arguments::{Asked, Chosen, USAGE, read_arguments};

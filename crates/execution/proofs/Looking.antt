@@ -1,7 +1,6 @@
 -- A calling frame by its number: its record, where it ends, and what it shows.
-use Rattle.std.proofs.Common.{◌≡◌, ℕ, zero, suc, ◌+◌, ◌-◌, ◌<◌, ◌≤◌, cond, ltb, get_or, Some, None, Option, sym, refl, ap, ◌∙◌, subst, ap₂, subst₂, arith, lt-ltb}
+use Rattle.std.proofs.Common.{◌≡◌, ℕ, zero, suc, ◌-◌, ◌<◌, ◌≤◌, cond, get_or, Some, None, sym, ap, ◌∙◌, ap₂, subst₂, arith, lt-ltb}
 use Rattle.bytecode.specs.Program.{Program}
-use Rattle.checked.specs.Runs.{View}
 use Rattle.stack.specs.declared.Stack.{Stack}
 use Rattle.execution.specs.declared.Execution.{Execution}
 use Rattle.runtime.specs.declared.FrameRecord.{FrameRecord}

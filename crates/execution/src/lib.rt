@@ -1,4 +1,6 @@
 // A program's execution over lent memory: its frames, their slots and the blocks; and every instruction but the call of a native.
+#![tactic(auto)]
+
 ghost use Rattle.std.specs.Prelude.{◌≡◌, ℕ, ◌+◌, ◌-◌, ◌^◌, ◌<◌, ◌≤◌, length, take, drop};
 ghost use Rattle.execution.specs.View.{state_of, beginning};
 

@@ -1,6 +1,6 @@
 -- The checked machine's memory: blocks of cells, each cell eight bytes or a reference, and what each memory instruction does there.
 -- A word is its 32 bits as a number below 2 ^ 32. Assumes nothing of the code.
-use Rattle.std.specs.Prelude.{ℕ, zero, suc, ◌+◌, ◌*◌, ◌/◌, ◌%◌, ◌^◌, Bool, true, false, cond, List, [], ◌∷◌, ◌++◌, length, set, replicate, ◌==◌, nat_le, nat_lt, slice_index, slice_index_or, slice_set}
+use Rattle.std.specs.Prelude.{ℕ, zero, suc, ◌+◌, ◌*◌, ◌/◌, ◌%◌, ◌^◌, Bool, true, false, cond, List, [], ◌∷◌, ◌++◌, length, replicate, ◌==◌, nat_le, nat_lt, slice_index, slice_index_or, slice_set}
 use Rattle.bytecode.specs.Stops.{Attempt, gives, stops, and_then}
 use Rattle.bytecode.specs.declared.stop.Stop.TheVariants.{Null, Bounds, Array, Text, Alignment, Mark, Length, Cells}
 

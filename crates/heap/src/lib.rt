@@ -1,4 +1,6 @@
 // The cells and block records that the machine's memory is made of.
+#![tactic(auto)]
+
 ghost use Rattle.std.specs.Prelude.{◌≡◌, true};
 ghost use Rattle.heap.specs.Stands.{Stands};
 

@@ -1,5 +1,5 @@
 -- Bytes pasted behind those that a line has written are what it has written then.
-use Rattle.std.proofs.Common.{◌≡◌, ℕ, zero, suc, ◌+◌, ◌-◌, ◌<◌, ◌≤◌, min, Bool, true, false, cond, List, [], ◌∷◌, ◌++◌, length, take, sym, refl, ap, ◌∙◌, subst, arith, length-take, le-leb}
+use Rattle.std.proofs.Common.{◌≡◌, ℕ, zero, suc, ◌+◌, ◌-◌, ◌<◌, ◌≤◌, min, Bool, true, false, cond, List, [], ◌∷◌, ◌++◌, length, take, sym, ap, ◌∙◌, arith, length-take, le-leb}
 use native.Mathlib.Nat.{zero-min, min-zero, suc-min-suc}
 use lib.Seq.{take-length, paste, length-paste, take-paste}
 use borrow.Author.Tests.{lt-leb}

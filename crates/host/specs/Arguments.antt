@@ -2,7 +2,6 @@
 use Rattle.std.specs.Prelude.{ℕ, Bool, true, false, List, [], ◌∷◌, Some, None, Option}
 use Rattle.bytecode.specs.Program.{Signature}
 use Rattle.bytecode.specs.declared.kind.Kind.{Kind}
-use Rattle.host.specs.declared.call.Argument
 use Rattle.host.specs.declared.call.Argument.{Argument}
 
 -- the signature with these arguments and this result

@@ -2,7 +2,6 @@
 use Rattle.std.specs.Prelude.{ℕ, ◌%◌, ◌^◌, cond, List, [], ◌∷◌, set as write, Some, None, Option, ◌==◌, nat_lt, slice_index}
 use Rattle.bytecode.specs.Program.{Signature}
 use Rattle.bytecode.specs.declared.kind.Kind.TheVariants.{Word}
-use Rattle.host.specs.declared.call.Reply
 use Rattle.host.specs.declared.call.Reply.{Reply}
 use Rattle.host.specs.Hosts.{Host, Call, stop_with}
 use Rattle.host.specs.Arguments.{takes, one_word, two_words}

@@ -1,12 +1,10 @@
 -- Hosts: what a host is told at a call, what it replies, and the laws that every host keeps.
-use Rattle.std.specs.Prelude.{◌≡◌, ℕ, zero, suc, ◌^◌, ◌<◌, Bool, true, false, cond, List, [], ◌∷◌, drop, Some, None, Option, ◌==◌}
+use Rattle.std.specs.Prelude.{◌≡◌, ℕ, suc, ◌^◌, ◌<◌, Bool, true, false, cond, List, [], ◌∷◌, drop, Some, None, Option, ◌==◌}
 use Rattle.bytecode.specs.Program.{Signature}
 use Rattle.bytecode.specs.declared.kind.Kind.{Kind}
 use Rattle.bytecode.specs.declared.kind.Kind.TheVariants.{Unknown, Word, Reference}
 use Rattle.bytecode.specs.declared.stop.HostFault.{HostFault}
-use Rattle.host.specs.declared.call.Argument
 use Rattle.host.specs.declared.call.Argument.{Argument}
-use Rattle.host.specs.declared.call.Reply
 use Rattle.host.specs.declared.call.Reply.{Reply}
 
 -- ## Texts

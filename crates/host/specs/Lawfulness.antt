@@ -1,13 +1,11 @@
 -- The drive and the line host keep the laws of hosts: proofs, which the hosts in code hand over.
-use Rattle.std.specs.Prelude.{◌≡◌, ℕ, ◌%◌, ◌^◌, ◌<◌, Bool, true, false, cond, List, [], ◌∷◌, Some, None, Option, ◌==◌, nat_lt, refl}
+use Rattle.std.specs.Prelude.{◌≡◌, ℕ, Bool, true, false, cond, List, [], ◌∷◌, Some, None, Option, ◌==◌, nat_lt, refl}
 use Rattle.std.proofs.Common.{sym, ap, subst, arith}
 use borrow.Author.Tests.{clash}
 use Rattle.bytecode.specs.Program.{Signature}
 use Rattle.bytecode.specs.declared.kind.Kind.{Kind}
 use Rattle.bytecode.specs.declared.kind.Kind.TheVariants.{Word, Reference}
-use Rattle.host.specs.declared.call.Argument
 use Rattle.host.specs.declared.call.Argument.{Argument}
-use Rattle.host.specs.declared.call.Reply
 use Rattle.host.specs.declared.call.Reply.{Reply}
 use Rattle.host.specs.Hosts.{Lawful, Suits, fits, fitting, references, stop_with}
 use Rattle.host.specs.Arguments.{takes, one_word, two_words, one_reference, two_references}

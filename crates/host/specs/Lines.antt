@@ -1,10 +1,9 @@
 -- The line host: a buffer that a program writes text and numbers to.
-use Rattle.std.specs.Prelude.{ℕ, zero, suc, ◌+◌, ◌/◌, ◌%◌, Bool, true, false, cond, List, [], ◌∷◌, ◌++◌, length, ℤ, pos, negsuc, Some, None, Option, ◌==◌, nat_le, nat_lt}
+use Rattle.std.specs.Prelude.{ℕ, zero, suc, ◌+◌, ◌/◌, ◌%◌, Bool, cond, List, [], ◌∷◌, ◌++◌, length, ℤ, pos, negsuc, Some, None, Option, ◌==◌, nat_le, nat_lt}
 use Rattle.std.proofs.Common.{to_z}
 use Rattle.std.specs.Int.{w32}
 use Rattle.bytecode.specs.Program.{Signature}
 use Rattle.bytecode.specs.declared.kind.Kind.TheVariants.{Word, Reference}
-use Rattle.host.specs.declared.call.Reply
 use Rattle.host.specs.declared.call.Reply.{Reply}
 use Rattle.host.specs.Hosts.{Host, Call, stop_with}
 use Rattle.host.specs.Arguments.{takes, one_word, one_reference, two_references}

@@ -1,5 +1,5 @@
 -- What the values that pass between a machine and a host mean.
-use Rattle.std.specs.Prelude.{length, take, Option}
+use Rattle.std.specs.Prelude.{length, take}
 use Rattle.bytecode.specs.Program.{Signature}
 use Rattle.host.specs.Hosts.{Text, Call}
 use Rattle.host.specs.declared.text.Text.{Text as LentText}

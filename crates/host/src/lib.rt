@@ -1,4 +1,6 @@
 // Hosts: what answers the natives of a program, and two of them.
+#![tactic(auto)]
+
 ghost use Rattle.std.specs.Prelude.{◌≡◌, ℕ};
 ghost use Rattle.std.specs.Option.{option_map};
 ghost use Rattle.host.specs.Hosts.{Host as Make, Lawful};

@@ -1,12 +1,9 @@
 -- A host that adds up the words that it is given.
 use Rattle.std.specs.Prelude.{◌≡◌, ℕ, ◌+◌, ◌%◌, ◌^◌, Bool, true, false, cond, List, [], ◌∷◌, Some, None, Option, ◌==◌, refl}
 use Rattle.std.proofs.Common.{subst, ap, arith}
-use borrow.Author.Tests.{clash}
 use Rattle.bytecode.specs.Program.{Signature}
 use Rattle.bytecode.specs.declared.kind.Kind.TheVariants.{Word}
-use Rattle.host.specs.declared.call.Argument
 use Rattle.host.specs.declared.call.Argument.{Argument}
-use Rattle.host.specs.declared.call.Reply
 use Rattle.host.specs.declared.call.Reply.{Reply}
 use Rattle.host.specs.Hosts.{Host, Call, Lawful, Suits, fits, fitting, references, stop_with}
 use Rattle.host.specs.Arguments.{takes, one_word}

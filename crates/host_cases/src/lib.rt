@@ -1,4 +1,6 @@
 // A third host, beside those that the library has, and cases for all three.
+#![tactic(auto)]
+
 ghost use Rattle.std.specs.Prelude.{ℕ};
 ghost use Rattle.host_cases.specs.Counter.{counter_host, counter_lawful};
 

@@ -1,5 +1,7 @@
 // Loads hex text from standard input, and prints how many bytes there are, a dump of them, and what the package holds that they are;
 // or why there is none.
+#![tactic(auto)]
+
 ghost use Rattle.std.specs.Prelude.{◌≡◌};
 ghost use Rattle.source.specs.Hex.{hex_text};
 ghost use Rattle.source.specs.Load.{loaded};

@@ -1,8 +1,6 @@
 -- A program that check has accepted meets the premises of the law.
-use Rattle.std.proofs.Common.{◌≡◌, ℕ, ◌+◌, ◌*◌, ◌^◌, ◌<◌, ◌≤◌, [], map, length, get_or, Some, sym, ap, ◌∙◌, subst, arith}
-use Rattle.std.specs.List.{range_with_len}
+use Rattle.std.proofs.Common.{ℕ, ◌+◌, ◌*◌, ◌^◌, ◌<◌, [], length, get_or, sym, ◌∙◌, subst, arith}
 use Rattle.std.proofs.lemmas.List.FromFn.{get_or-map-range_with_len, length-map-range_with_len}
-use Rattle.plan.specs.Programs.{nth}
 use Rattle.plan.specs.Plans.{Fullest}
 use Rattle.plan.specs.Sweep.{plan_of}
 use Rattle.plan.proofs.Following.{judge_fullest}

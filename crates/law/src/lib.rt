@@ -1,4 +1,6 @@
 // What an accepted program is owed: what check promises of it is what the law of the machine asks for.
+#![tactic(auto)]
+
 ghost use Rattle.std.specs.Prelude.{◌≡◌, ℕ, ◌<◌, length};
 ghost use Rattle.plan.specs.Plans.{Fullest};
 ghost use Rattle.checked.specs.Law.{Plans};

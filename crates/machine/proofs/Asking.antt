@@ -1,17 +1,16 @@
 -- The call of a native: what the slots of its arguments say is what the state says, and each reply is the definition's.
-use Rattle.std.proofs.Common.{◌≡◌, ℕ, zero, suc, ◌+◌, ◌-◌, ◌<◌, ◌≤◌, min, Bool, true, false, cond, List, [], ◌∷◌, length, get_or, take, drop, is_some, Some, None, Option, sym, refl, ap, ◌∙◌, subst, ap₂, add-zero, arith, length-drop}
+use Rattle.std.proofs.Common.{◌≡◌, ℕ, suc, ◌+◌, ◌-◌, ◌<◌, ◌≤◌, true, false, cond, List, [], ◌∷◌, length, get_or, take, drop, is_some, Some, None, Option, sym, refl, ap, ◌∙◌, subst, ap₂, add-zero, arith, length-drop}
 use Rattle.std.proofs.lemmas.List.{get_or-take, get_or-drop, length-take-le}
 use Rattle.bytecode.specs.declared.kind.Kind.{Kind}
 use Rattle.bytecode.specs.declared.stop.Stop.TheVariants.{Native as NoNative}
 use Rattle.bytecode.specs.Program.{Program, Native}
 use Rattle.plan.specs.Programs.{nth}
-use Rattle.host.specs.Hosts.{Host, Call, Lawful}
-use Rattle.host.specs.declared.call.Reply
+use Rattle.host.specs.Hosts.{Host}
 use Rattle.host.specs.declared.call.Reply.{Reply}
-use Rattle.checked.specs.Runs.{Next, stops}
+use Rattle.checked.specs.Runs.{stops}
 use Rattle.checked.specs.Machine.{agrees}
 use Rattle.checked.proofs.Pieces.{nth_some, nth-get_or}
-use Rattle.runtime.specs.Runtime.{State, Came, went, pushed, first_argument, argument_of, arguments_from, number_if, numbers_from, numbers_of, text_in, call_of, handed, replied, lifted, asked}
+use Rattle.runtime.specs.Runtime.{State, went, pushed, first_argument, argument_of, arguments_from, number_if, numbers_from, numbers_of, text_in, call_of, handed, replied, lifted, asked}
 use Rattle.ready.specs.Ready.{no_native, native_at, Whole}
 use Rattle.natives.specs.Calls.{call_with}
 

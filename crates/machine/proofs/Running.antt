@@ -1,7 +1,6 @@
 -- A run that is under way, step by step: what it has come to, and what it answers when it is over.
-use Rattle.std.proofs.Common.{◌≡◌, ℕ, zero, suc, ◌+◌, ◌-◌, ◌<◌, ◌≤◌, Some, None, Ok, Err, Result, sym, refl, ap, ◌∙◌, subst, ap₂, add-zero, arith}
+use Rattle.std.proofs.Common.{◌≡◌, ℕ, suc, ◌+◌, ◌-◌, ◌<◌, Ok, Err, Result, sym, refl, ap, ◌∙◌, subst, ap₂, add-zero, arith}
 use Rattle.bytecode.specs.declared.stop.Stop.{Stop}
-use Rattle.bytecode.specs.Program.{Program}
 use Rattle.host.specs.Hosts.{Host, Lawful}
 use Rattle.reader.specs.View.{program_of, Fitting}
 use Rattle.checked.specs.Runs
@@ -11,9 +10,7 @@ use Rattle.runtime.specs.Runtime.{State, step, runtime_machine}
 use Rattle.ready.specs.Ready.{Ready}
 use Rattle.ready.proofs.Staying.{stays_ready}
 use Rattle.machine.specs.declared.Machine.{Machine}
-use Rattle.machine.specs.declared.Condition
 use Rattle.machine.specs.declared.Condition.{Condition}
-use Rattle.machine.specs.declared.Outcome
 use Rattle.machine.specs.declared.Outcome.{Outcome}
 use Rattle.machine.specs.declared.Over.{Over}
 use Rattle.machine.specs.View.{program_in, state_of, status_as, status_of, Intact, told, used_of, over_fault, fault_in}

@@ -1,5 +1,5 @@
 -- Sizes that are allowed, and the state that a machine is started in: it is ready.
-use Rattle.std.proofs.Common.{◌≡◌, ℕ, zero, suc, ◌+◌, ◌^◌, ◌<◌, ◌≤◌, Bool, true, false, cond, ◌&&◌, ltb, leb, List, [], ◌∷◌, length, get_or, Some, None, sym, refl, ap, ◌∙◌, subst, arith, ltb-true, lt-ltb, le-leb, leb-true}
+use Rattle.std.proofs.Common.{◌≡◌, ℕ, zero, suc, ◌+◌, ◌<◌, ◌≤◌, true, false, ltb, leb, List, [], ◌∷◌, get_or, Some, refl, ap, subst, arith, ltb-true, lt-ltb, le-leb, leb-true}
 use borrow.Author.Tests.{lt-leb}
 use Rattle.std.proofs.lemmas.Bool.{and_parts, and_from, and_right}
 use Rattle.std.specs.List.{AllByRecursion as All}
@@ -7,14 +7,13 @@ use Rattle.bytecode.specs.Program.{Function}
 use Rattle.bytecode.specs.Program as bytecode
 use Rattle.heap.specs.declared.Cell.{Cell}
 use Rattle.heap.specs.declared.BlockRecord.{BlockRecord}
-use Rattle.heap.specs.Storage.{Storage}
-use Rattle.plan.specs.Programs.{nth, function_at, variables_at}
+use Rattle.plan.specs.Programs.{nth, variables_at}
 use Rattle.reader.specs.declared.package.Package.{Package}
 use Rattle.reader.specs.View.{program_of, FunctionFormed, Fitting}
 use Rattle.checked.specs.Machine.{Sizes, reserve}
 use Rattle.runtime.specs.declared.FrameRecord.{FrameRecord}
-use Rattle.runtime.specs.Runtime.{State, begins}
-use Rattle.runtime.specs.Law.{Memory, sizes_of, Enough}
+use Rattle.runtime.specs.Runtime.{begins}
+use Rattle.runtime.specs.Law.{sizes_of, Enough}
 use Rattle.checked.specs.Law.{Plans}
 use Rattle.plan.specs.Sweep.{plan_of}
 use Rattle.verifier.specs.declared.program.Program.{Program}

@@ -1,7 +1,7 @@
 -- A run on a machine: what it answers and leaves is what the running machine's definition says.
 use Rattle.std.specs.Prelude.{◌≡◌, ℕ, ◌+◌, Result}
 use Rattle.host.specs.Hosts.{Host}
-use Rattle.checked.specs.Runs.{Served, served, live, iterate, response, refusal, ran}
+use Rattle.checked.specs.Runs.{served, live, iterate, response, refusal, ran}
 use Rattle.runtime.specs.Runtime.{step, runtime_machine}
 use Rattle.machine.specs.declared.Machine.{Machine}
 use Rattle.machine.specs.declared.Outcome.{Outcome}

@@ -1,5 +1,5 @@
 -- Sizes at which a program may be started.
-use Rattle.std.specs.Prelude.{◌≡◌, ℕ, Bool, true, false, cond, ◌&&◌, nat_le, nat_lt}
+use Rattle.std.specs.Prelude.{Bool, ◌&&◌, nat_le, nat_lt}
 use Rattle.bytecode.specs.Program.{Program}
 use Rattle.plan.specs.Programs.{nth}
 use Rattle.checked.specs.Machine.{Sizes, reserve}

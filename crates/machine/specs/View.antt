@@ -1,12 +1,10 @@
 -- What a machine stands for, and what every call on it asks for and gives back.
-use Rattle.std.specs.Prelude.{◌≡◌, ℕ, List, length, Some, None, Ok, Err, Option, Result}
+use Rattle.std.specs.Prelude.{ℕ, List, Some, None, Ok, Err, Option, Result}
 use Rattle.bytecode.specs.Outcome.{Fault}
 use Rattle.bytecode.specs.Program.{Program}
 use Rattle.heap.specs.declared.Cell.{Cell}
 use Rattle.heap.specs.declared.BlockRecord.{BlockRecord}
-use Rattle.heap.specs.Storage.{Storage}
 use Rattle.reader.specs.View.{program_of, Fitting}
-use Rattle.checked.specs.Runs
 use Rattle.checked.specs.Runs.{Status, live, ended, stopped, Answer, continues, ends, stops, over, sees, unseen}
 use Rattle.runtime.specs.declared.FrameRecord.{FrameRecord}
 use Rattle.runtime.specs.Runtime.{State}
@@ -16,9 +14,7 @@ use Rattle.execution.specs.declared.FrameView.{FrameView}
 use Rattle.execution.specs.View as execution
 use Rattle.execution.specs.View.{view_in}
 use Rattle.machine.specs.declared.Machine.{Machine}
-use Rattle.machine.specs.declared.Condition
 use Rattle.machine.specs.declared.Condition.{Condition}
-use Rattle.machine.specs.declared.Outcome
 use Rattle.machine.specs.declared.Outcome.{Outcome}
 use Rattle.machine.specs.declared.Over.{Over}
 use Rattle.machine.specs.declared.NoFrame.{NoFrame}

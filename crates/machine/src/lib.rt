@@ -1,4 +1,6 @@
 // The machine: runs an accepted program over lent memory, a number of steps at a time.
+#![tactic(auto)]
+
 mod fetch;
 mod run;
 pub mod sizes;

@@ -1,5 +1,7 @@
 // Plans: shapes for the places of a program's code, and the sweep that finds them. The definitions stand in specs/; here are the
 // theorems on them.
+#![tactic(auto)]
+
 ghost use Rattle.plan.specs.Judgement.{JudgementStands, SweepStands, TakesSuffice, OneFullest, StartsStand, TakesWithin};
 ghost use Rattle.plan.specs.Samples.{Samples};
 

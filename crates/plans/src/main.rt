@@ -1,6 +1,8 @@
 // Checks a package given as hex text on standard input, and prints the shape of each start that has one: its function and place,
 // the kinds on the stack from the bottom up and of each variable (w word, a reference, - none; a dot where there are none).
 // A package that is not accepted is refused as by `verdict`.
+#![tactic(auto)]
+
 ghost use Rattle.verifier.specs.Checking.{Checked};
 
 use bytecode::kind::Kind;

@@ -5,7 +5,6 @@ use Rattle.std.proofs.lemmas.Bool.{cond-true}
 use Rattle.std.specs.List.{AllByRecursion as All}
 use Rattle.bytecode.specs.declared.kind.Kind.TheVariants.{Word}
 use Rattle.bytecode.specs.Outcome.{Out, good, bind, refuse}
-use Rattle.bytecode.specs.Program as program
 use Rattle.bytecode.specs.Program.{Signature}
 use Rattle.reader.specs.Fields.{byte, bytes_from, test}
 use Rattle.reader.specs.Layout.{Read, FunctionEntry, NativeEntry, function_arguments, native_arguments, code_bytes, function_sheet_at, native_sheet_at, functions_with, natives_with, Signed, sheet_at, kind_of}

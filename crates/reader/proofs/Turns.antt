@@ -4,9 +4,9 @@ use Rattle.std.proofs.lemmas.List.{take_more_set, map_push, length-take-le, leng
 use Rattle.std.proofs.ByRecursion.{All-push, All-set, All-get_or}
 use Rattle.std.proofs.lemmas.List.FromFn.{map-range_with_len_more}
 use Rattle.std.specs.List.{AllByRecursion as All}
-use Rattle.bytecode.specs.Outcome.{good, bad, bind, Fault, Out, refuse}
-use Rattle.reader.specs.Fields.{byte, four, bytes_from, bytes_at, field, four_at}
-use Rattle.reader.specs.Layout.{integer_at, FunctionEntry, code_bytes, is_letter, are_letters, Read}
+use Rattle.bytecode.specs.Outcome.{good, bad, bind, Fault}
+use Rattle.reader.specs.Fields.{byte, four, bytes_from, bytes_at}
+use Rattle.reader.specs.Layout.{integer_at, FunctionEntry, code_bytes, is_letter, are_letters}
 use Rattle.reader.specs.View.{integers_from, function_entry_of, no_function_record, FunctionFits, FunctionsFit, FunctionEnds, FunctionBehind}
 use Rattle.reader.specs.declared.package.Function.{Function}
 use Rattle.reader.proofs.Fits.{bytes_length}

@@ -1,4 +1,6 @@
 // Reads a package and its sheet, field by field.
+#![tactic(auto)]
+
 ghost use Rattle.std.specs.Prelude.{◌≡◌, ◌+◌, ◌≤◌, length, IfOk};
 ghost use Rattle.bytecode.specs.Outcome.{told, same};
 ghost use Rattle.reader.specs.Fields.{bytes_from};

@@ -1,15 +1,15 @@
 -- The state in which an accepted program begins is ready.
-use Rattle.std.proofs.Common.{◌≡◌, ℕ, ◌+◌, ◌^◌, ◌<◌, ◌≤◌, List, [], ◌∷◌, ◌++◌, length, replicate, Some, None, Option, sym, refl, ap, ◌∙◌, subst, append-nil, arith}
+use Rattle.std.proofs.Common.{◌≡◌, ℕ, ◌+◌, ◌^◌, ◌<◌, ◌≤◌, List, [], ◌∷◌, length, replicate, None, Option, sym, refl, ap, subst, append-nil, arith}
 use lib.ListN.{length-replicate}
 use Rattle.bytecode.specs.Program.{Program}
 use Rattle.heap.specs.Storage.{Storage}
 use Rattle.heap.proofs.Standing.{stands}
 use Rattle.plan.specs.Programs.{nth, variables_at}
-use Rattle.checked.specs.Machine.{Value, frame, Sizes, reserve, begins as checked_begins}
+use Rattle.checked.specs.Machine.{Value, frame, reserve, begins as checked_begins}
 use Rattle.checked.specs.Law.{Plans, Accepted}
 use Rattle.checked.proofs.Standing.{begins_sound}
 use Rattle.runtime.specs.declared.FrameRecord.{FrameRecord}
-use Rattle.runtime.specs.Runtime.{State, begins}
+use Rattle.runtime.specs.Runtime.{begins}
 use Rattle.runtime.specs.Relation.{Small, flat, Lays, Represented}
 use Rattle.runtime.proofs.Laying.{lays_unset}
 use Rattle.runtime.proofs.Framing.{flat_length}

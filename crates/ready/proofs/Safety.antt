@@ -1,29 +1,29 @@
 -- The next instruction of a ready state is there, and whatever it relies on: its kinds are those of the plan.
-use Rattle.std.proofs.Common.{◌≡◌, ℕ, zero, suc, ◌+◌, ◌-◌, ◌^◌, ◌<◌, ◌≤◌, Bool, true, false, cond, ltb, leb, List, [], ◌∷◌, ◌++◌, map, reverse, length, get_or, ℤ, is_some, Some, None, Option, sym, refl, ap, ◌∙◌, subst, arith, length-append, ltb-true, leb-true}
+use Rattle.std.proofs.Common.{◌≡◌, ℕ, ◌+◌, ◌-◌, ◌^◌, ◌<◌, ◌≤◌, Bool, true, false, cond, ltb, leb, List, [], ◌∷◌, map, reverse, length, ℤ, is_some, Some, None, Option, sym, refl, ap, ◌∙◌, subst, arith, length-append, ltb-true, leb-true}
 use lib.ListN.{length-reverse}
 use Rattle.bytecode.specs.declared.kind.Kind.{Kind}
-use Rattle.bytecode.specs.declared.kind.Kind.TheVariants.{Unknown, Word, Reference as Ref}
+use Rattle.bytecode.specs.declared.kind.Kind.TheVariants.{Word, Reference as Ref}
 use Rattle.bytecode.specs.declared.instruction.Instruction.{Instruction}
 use Rattle.bytecode.specs.declared.instruction.Instruction.TheVariants.{Nop, Pop, Dup, Swap, AconstNull, Aldc, Bipush, Ildc, Vload, Vstore, Binary, IfCmpeq, IfCmpne, IfIcmp, Goto, Invokestatic, Invokenative, Return, New, Newarray, Arraylength, Aaddf, Aadds, Imload, Cmload, Amload, Imstore, Cmstore, Amstore}
 use Rattle.bytecode.specs.Instructions.{size_of, byte_at, instruction_of, whole, decode_at, target}
-use Rattle.bytecode.specs.Outcome.{Out, bad, good}
+use Rattle.bytecode.specs.Outcome.{good}
 use Rattle.bytecode.specs.Program.{Program, Function, Native}
 use Rattle.heap.specs.Checked.{Heap}
 use Rattle.plan.specs.Programs.{nth, function_at, variables_at, no_function}
 use Rattle.plan.specs.Shapes.{Shape}
-use Rattle.plan.specs.Effects.{effect, fixed, perform, performed, within, call_static, call_native}
+use Rattle.plan.specs.Effects.{effect, fixed, performed, within, call_static, call_native}
 use Rattle.plan.specs.Plans.{Hits, Lands as Reaches, successors, shape_at}
-use Rattle.checked.specs.Machine.{Value, word, reference, kind_of, Frame, frame, Conf, conf, Sizes, reserve, reserved}
+use Rattle.checked.specs.Machine.{Value, word, reference, kind_of, Frame, frame, Conf, conf, Sizes, reserve}
 use Rattle.checked.specs.Law.{Plans, Accepted}
 use Rattle.checked.specs.Sound.{Fits, Callers, main, more, Sound}
-use Rattle.checked.proofs.Stacking.{Kinded, bare, words, refs, kinded_at, Replaced, replaced, loads, stores, pops, doubles, swaps, pairs, gives_result}
+use Rattle.checked.proofs.Stacking.{Kinded, words, refs, kinded_at, Replaced, replaced, loads, stores, pops, doubles, swaps, pairs, gives_result}
 use Rattle.checked.proofs.Pieces.{nth-get_or, nth_within, length-map}
 use Rattle.checked.proofs.Sounding.{good_plan, is_function}
 use Rattle.runtime.specs.Runtime.{State, slot}
 use Rattle.runtime.specs.Relation.{flat, Represents, Represented}
 use Rattle.runtime.proofs.Framing.{flat_length, stack_low, taken_slots}
 use Rattle.runtime.proofs.Simulating.{one, two}
-use Rattle.ready.specs.Ready.{Ready, Bounds, Room, Lands, KnownIn, no_native, native_at, Safe, Fetched}
+use Rattle.ready.specs.Ready.{Ready, Room, Lands, KnownIn, no_native, native_at, Safe, Fetched}
 
 -- a whole instruction ends inside the code
 pub whole_inside : (code : List ℕ) (p : ℕ) (i : Instruction) → decode_at code p ≡ Some i → p + size_of i ≤ length code

@@ -1,9 +1,7 @@
 -- The frames of a ready state: each has a function that is there, and its variables before its end.
-use Rattle.std.proofs.Common.{◌≡◌, ℕ, zero, suc, ◌+◌, ◌-◌, ◌<◌, ◌≤◌, List, [], ◌∷◌, map, length, get_or, Option, sym, refl, ap, ◌∙◌, subst, subst₂, arith}
-use Rattle.bytecode.specs.Program.{Program, Function}
-use Rattle.heap.specs.Checked.{Heap}
-use Rattle.plan.specs.Programs.{function_at, variables_at}
-use Rattle.checked.specs.Machine.{Value, kind_of, Frame, frame, Conf, conf, Sizes}
+use Rattle.std.proofs.Common.{◌≡◌, ℕ, zero, suc, ◌-◌, ◌<◌, List, ◌∷◌, length, get_or, Option, sym, refl, ap, ◌∙◌, subst, subst₂, arith}
+use Rattle.bytecode.specs.Program.{Program}
+use Rattle.checked.specs.Machine.{Value, Frame, frame, Conf, conf}
 use Rattle.checked.specs.Law.{Plans, Accepted}
 use Rattle.checked.specs.Sound.{Fits, Callers, main, more, Sound}
 use Rattle.checked.proofs.Pieces.{nth_within}
@@ -11,7 +9,7 @@ use Rattle.checked.proofs.Sounding.{is_function}
 use Rattle.bytecode.specs.declared.kind.Kind.{Kind}
 use Rattle.runtime.specs.declared.FrameRecord.{FrameRecord}
 use Rattle.runtime.specs.Runtime.{State, no_frame, caller_at, end_of}
-use Rattle.runtime.specs.Relation.{flat, Records, Represents, Represented}
+use Rattle.runtime.specs.Relation.{flat, Records, Represented}
 use Rattle.runtime.proofs.Framing.{flat_length}
 use Rattle.ready.specs.Ready.{Ready, FrameInside, Framed}
 

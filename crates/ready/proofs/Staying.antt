@@ -1,20 +1,18 @@
 -- A step of a ready state does not break, and the state that it goes on to is ready.
-use Rattle.std.proofs.Common.{◌≡◌, ℕ, ◌+◌, ◌^◌, ◌<◌, length, Some, None, Option, sym, refl, ap, ◌∙◌, subst, arith}
+use Rattle.std.proofs.Common.{◌≡◌, ℕ, ◌+◌, ◌^◌, ◌<◌, length, Some, sym, ap, ◌∙◌, subst, arith}
 use Rattle.bytecode.specs.declared.instruction.Instruction.{Instruction}
 use Rattle.bytecode.specs.Instructions.{size_of, decode_at}
-use Rattle.bytecode.specs.Program.{Program, Function}
+use Rattle.bytecode.specs.Program.{Program}
 use Rattle.host.specs.Hosts.{Host, Lawful}
 use Rattle.plan.specs.Programs.{nth, function_at, no_function}
-use Rattle.checked.specs.Runs.{Next, goes, ends, stops, breaks}
-use Rattle.checked.specs.Machine.{Frame, frame, Conf, conf, Sizes}
-use Rattle.checked.specs.Machine as checked
-use Rattle.checked.specs.Sound.{Sound}
+use Rattle.checked.specs.Runs.{Next, goes}
+use Rattle.checked.specs.Machine.{frame, Conf, conf, Sizes}
 use Rattle.checked.proofs.Pieces.{nth_some, nth-get_or}
 use Rattle.checked.proofs.Sounding.{Fine, step_fine}
 use Rattle.runtime.specs.Runtime.{State, act, acted, fetched as fetches, step}
 use Rattle.runtime.specs.Relation.{Represented, Same, go, end, stop}
 use Rattle.runtime.proofs.Stepping.{step_same}
-use Rattle.ready.specs.Ready.{Ready, Whole, Fetched}
+use Rattle.ready.specs.Ready.{Ready, Whole}
 
 -- the function with a number below the count
 pub nth_function : (P : Program) (f : ℕ) → f < length P.functions → nth P.functions f ≡ Some (function_at P f)

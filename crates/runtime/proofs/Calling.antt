@@ -6,23 +6,21 @@ use Rattle.std.proofs.lemmas.List.{append-nil}
 use Rattle.bytecode.specs.declared.kind.Kind.{Kind}
 use Rattle.bytecode.specs.declared.kind.Kind.TheVariants.{Unknown, Word, Reference as Ref}
 use Rattle.bytecode.specs.declared.stop.Stop.TheVariants.{Calls, Native as NoNative}
-use Rattle.bytecode.specs.Program.{Program, Function, Native, Signature}
+use Rattle.bytecode.specs.Program.{Program, Function, Native}
 use Rattle.heap.specs.Checked.{Heap, Reference, null, text, block}
 use Rattle.heap.specs.Storage.{Known, reference_of, block_of, offset_of}
-use Rattle.host.specs.Hosts.{Host, Call, Text, no_text, text_at, Lawful, Suits, fits}
-use Rattle.host.specs.declared.call.Argument
+use Rattle.host.specs.Hosts.{Host, no_text, text_at, Lawful, Suits, fits}
 use Rattle.host.specs.declared.call.Argument.{Argument}
-use Rattle.host.specs.declared.call.Reply
 use Rattle.host.specs.declared.call.Reply.{Reply}
 use Rattle.plan.specs.Programs.{nth}
 use Rattle.checked.specs.Runs.{Next, goes, ends, stops as halts, breaks}
 use Rattle.checked.specs.Machine.{Value, word, reference, kind_of, Frame, frame, Conf, conf, Sizes, reserve, reserved, agrees, references, room_for, resume, enter, return, answered, ask}
 use Rattle.checked.specs.Machine as checked
 use Rattle.checked.proofs.Pieces.{length-map, agrees_is, nth_some}
-use Rattle.checked.proofs.Stacking.{Given, arguments_fit, count_references_lem}
+use Rattle.checked.proofs.Stacking.{arguments_fit, count_references_lem}
 use Rattle.runtime.specs.declared.FrameRecord.{FrameRecord}
-use Rattle.runtime.specs.Runtime.{State, no_frame, slot, pushed, with_storage, entered, left as leaves, Came, went, gave, halted, lost, called, returned, argument_of, arguments_from, number_if, numbers_from, text_of, text_in, first_argument, numbers_of, call_of, handed, replied, lifted, asked}
-use Rattle.runtime.specs.Relation.{Stands, flat, slots_of, Lays, Records, Represents, Represented, Same, go, end, stop}
+use Rattle.runtime.specs.Runtime.{State, no_frame, slot, pushed, entered, left as leaves, Came, went, gave, halted, called, returned, argument_of, arguments_from, numbers_from, text_of, text_in, first_argument, numbers_of, call_of, handed, replied, lifted, asked}
+use Rattle.runtime.specs.Relation.{Stands, flat, Lays, Records, Represents, Represented, Same, go, end, stop}
 use Rattle.runtime.proofs.Laying.{lays_front, lays_last, lays_more, lays_unset, length_more}
 use Rattle.runtime.proofs.Framing.{flat_length, flat_push, flat_enter, records_more}
 use Rattle.runtime.proofs.Simulating.{one, put, as_it_was}

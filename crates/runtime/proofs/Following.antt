@@ -1,9 +1,8 @@
 -- Two machines whose steps come to the same are the same over every list of requests, and over every list of turns with one host.
-use Rattle.std.proofs.Common.{◌≡◌, ℕ, zero, suc, ◌-◌, List, [], ◌∷◌, Some, None, Option, sym, refl, ap, ◌∙◌, subst, ap₂, arith}
+use Rattle.std.proofs.Common.{◌≡◌, ℕ, zero, suc, ◌-◌, List, [], ◌∷◌, None, sym, refl, ap, ◌∙◌, subst, ap₂, arith}
 use Rattle.bytecode.specs.declared.stop.Stop.{Stop}
 use Rattle.host.specs.Hosts.{Host, Lawful}
-use Rattle.checked.specs.Runs.{Next, goes, ends, stops, breaks, Status, live, ended, stopped, broken, Served, served, after, advance, iterate, Request, run, look, View, Answer, Response, response, shown, Machine, tells, handle, ran, looked, respond, handle_all, responses, Turn, serve}
-use Rattle.checked.specs.Runs as runs
+use Rattle.checked.specs.Runs.{Next, Status, live, ended, stopped, Served, served, after, advance, iterate, Request, run, look, Answer, response, shown, Machine, tells, handle, ran, looked, respond, handle_all, responses, Turn, serve}
 use Rattle.checked.specs.Law.{KeepsLaws, AllKeepLaws}
 use Rattle.runtime.specs.Relation.{Same, go, end, stop, Alike, lives, done, halts}
 

@@ -1,9 +1,8 @@
 -- The slots of frames: one value more or less, variables, a new frame and a frame that is left; and how much frames take.
-use Rattle.std.proofs.Common.{◌≡◌, ℕ, zero, suc, ◌+◌, ◌-◌, ◌<◌, ◌≤◌, List, [], ◌∷◌, ◌++◌, map, reverse, length, get_or, set, replicate, Some, None, Option, sym, refl, ap, ◌∙◌, subst, append_assoc, arith, length-append, length-set, get_or-set_other}
+use Rattle.std.proofs.Common.{◌≡◌, ℕ, ◌+◌, ◌<◌, ◌≤◌, List, [], ◌∷◌, ◌++◌, map, reverse, length, get_or, set, replicate, Some, None, Option, sym, ap, ◌∙◌, append_assoc, arith, length-append, get_or-set_other}
 use lib.ListN.{length-reverse}
 use Rattle.std.proofs.lemmas.List.{map-append, reverse-append, reverse-reverse, append-nil}
 use Rattle.bytecode.specs.Program.{Program}
-use Rattle.plan.specs.Programs.{nth}
 use Rattle.checked.specs.Machine.{Value, kind_of, Frame, frame, reserve, reserved}
 use Rattle.checked.specs.Law.{Plans, Accepted}
 use Rattle.checked.specs.Sound.{Fits, Callers, main, more}

@@ -1,9 +1,9 @@
 -- What is seen of a frame is the same in both machines.
-use Rattle.std.proofs.Common.{◌≡◌, ℕ, zero, suc, ◌+◌, ◌-◌, ◌<◌, ◌≤◌, Bool, true, false, cond, ltb, List, [], ◌∷◌, map, length, get_or, Some, None, Option, sym, refl, ap, ◌∙◌, subst, ap₂, arith, le-ltb, lt-ltb}
+use Rattle.std.proofs.Common.{◌≡◌, ℕ, zero, suc, ◌-◌, cond, ltb, List, [], ◌∷◌, length, get_or, Some, None, Option, sym, refl, ap, ◌∙◌, subst, ap₂, arith, le-ltb, lt-ltb}
 use lib.Dec.{leb-suc-suc}
 use Rattle.bytecode.specs.declared.kind.Kind.{Kind}
 use Rattle.bytecode.specs.Program.{Program}
-use Rattle.plan.specs.Programs.{nth, function_at, variables_at}
+use Rattle.plan.specs.Programs.{nth, variables_at}
 use Rattle.checked.specs.Runs.{View}
 use Rattle.checked.specs.Machine.{Value, Frame, frame, Conf, conf, Sizes, viewed}
 use Rattle.checked.specs.Machine as checked
@@ -11,8 +11,8 @@ use Rattle.checked.specs.Law.{Plans, Accepted}
 use Rattle.checked.specs.Sound.{Fits, Callers, main, more, Sound}
 use Rattle.checked.proofs.Sounding.{is_function}
 use Rattle.runtime.specs.declared.FrameRecord.{FrameRecord}
-use Rattle.runtime.specs.Runtime.{State, no_frame, view_of, newest, caller_at, end_of, frame_at}
-use Rattle.runtime.specs.Relation.{flat, Records, Represents, Represented}
+use Rattle.runtime.specs.Runtime.{State, no_frame, view_of, newest, frame_at}
+use Rattle.runtime.specs.Relation.{flat, Records, Represented}
 use Rattle.runtime.proofs.Framing.{flat_length}
 
 module _ (P : Program) (plans : Plans) (ok : Accepted P plans) where

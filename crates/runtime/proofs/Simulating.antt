@@ -1,27 +1,23 @@
 -- One instruction: the running machine does what the checked machine does, and goes on to represent it.
-use Rattle.std.proofs.Common.{◌≡◌, ℕ, zero, suc, ◌+◌, ◌-◌, ◌%◌, ◌^◌, ◌<◌, ◌≤◌, Bool, true, false, cond, not, eqb, ltb, leb, List, [], ◌∷◌, ◌++◌, map, reverse, length, get_or, set, replicate, ℤ, Some, None, Option, sym, refl, ap, ◌∙◌, subst, ap₂, subst₂, arith, length-append, length-set, get_or-set_same, ltb-true, lt-ltb, eq-eqb, eqb-true, leb-true}
-use lib.ListN.{length-replicate}
+use Rattle.std.proofs.Common.{◌≡◌, ℕ, suc, ◌+◌, ◌-◌, ◌%◌, ◌^◌, ◌<◌, ◌≤◌, Bool, true, false, cond, eqb, ltb, List, [], ◌∷◌, length, get_or, set, ℤ, Some, None, Option, sym, refl, ap, ◌∙◌, subst, ap₂, subst₂, arith, length-set, lt-ltb, eq-eqb, eqb-true}
 use borrow.Author.Tests.{eqb-false}
 use Rattle.bytecode.specs.declared.kind.Kind.{Kind}
-use Rattle.bytecode.specs.declared.kind.Kind.TheVariants.{Unknown, Word, Reference as Ref}
-use Rattle.bytecode.specs.declared.stop.Stop.TheVariants.{Calls}
+use Rattle.bytecode.specs.declared.kind.Kind.TheVariants.{Word, Reference as Ref}
 use Rattle.bytecode.specs.Instructions.{target}
-use Rattle.bytecode.specs.Program.{Program, Function}
+use Rattle.bytecode.specs.Program.{Program}
 use Rattle.bytecode.specs.Stops.{Attempt, gives, stops}
 use Rattle.heap.specs.Checked.{Heap, Reference, null, text, block}
 use Rattle.heap.specs.Storage.{Storage, Placement, Known, reference_of, number_of}
 use Rattle.heap.specs.Relation.{Match, Same as HeapSame, give, stop as halt, Allocated, Names, references as as_references}
 use Rattle.heap.proofs.Standing.{stands}
-use Rattle.plan.specs.Programs.{nth}
-use Rattle.checked.specs.Runs.{Next, goes, ends, stops as halts, breaks}
-use Rattle.checked.specs.Machine.{Value, word, reference, kind_of, Frame, frame, Conf, conf, Sizes, reserve, reserved, same_reference, pop_word, pop_reference, pop_any, room_for, attempt, found, compared, resume, branch}
-use Rattle.checked.proofs.Stacking.{Kinded, bare, words, refs, kinded_length}
-use Rattle.runtime.specs.declared.FrameRecord.{FrameRecord}
-use Rattle.runtime.specs.Runtime.{State, no_frame, slot, word_in, moved, pushed, assigned, swapped, with_storage, Came, went, gave, halted, lost, tried, jumped, branched, lifted}
-use Rattle.runtime.specs.Relation.{Stands, Holds, flat, Lays, Records, Sized, Represents, Represented, Same, go, end, stop}
-use Rattle.runtime.proofs.Laying.{lays_front, lays_last, lays_at, lays_more, lays_set, lays_unset, lays_later, stands_more, length_more}
+use Rattle.checked.specs.Runs.{Next, goes, breaks}
+use Rattle.checked.specs.Machine.{Value, word, reference, kind_of, Frame, frame, Conf, conf, Sizes, same_reference, pop_word, pop_reference, pop_any, room_for, attempt, found, compared, resume, branch}
+use Rattle.checked.proofs.Stacking.{Kinded, words, refs}
+use Rattle.runtime.specs.Runtime.{State, slot, word_in, moved, pushed, assigned, swapped, with_storage, Came, went, tried, jumped, branched, lifted}
+use Rattle.runtime.specs.Relation.{Stands, flat, Lays, Represents, Represented, Same, go, stop}
+use Rattle.runtime.proofs.Laying.{lays_front, lays_last, lays_at, lays_more, lays_set, lays_later, length_more}
 use Rattle.runtime.proofs.Sizing.{Word32, Kept, KeptIf, KeptPlacement}
-use Rattle.runtime.proofs.Framing.{flat_length, flat_push, variable_at, variable_set, flat_enter, records_more}
+use Rattle.runtime.proofs.Framing.{flat_length, flat_push, variable_at, variable_set}
 
 -- ## Words and references in slots
 

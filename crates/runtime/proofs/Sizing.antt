@@ -1,5 +1,5 @@
 -- Storage holds bytes and array lengths that are words: what is read is a word, and every memory instruction keeps it so.
-use Rattle.std.proofs.Common.{◌≡◌, ℕ, zero, suc, ◌+◌, ◌-◌, ◌*◌, ◌/◌, ◌%◌, ◌^◌, ◌<◌, ◌≤◌, Bool, true, false, cond, eqb, ltb, leb, ◌⊎◌, List, [], ◌∷◌, length, get_or, set, ℤ, pos, negsuc, sym, refl, ap, ◌∙◌, subst, inl, inr, arith, length-set, get_or-set_other, get_or-set_same, ltb-false, ltb-true, eqb-true, leb-true}
+use Rattle.std.proofs.Common.{◌≡◌, ℕ, zero, suc, ◌+◌, ◌*◌, ◌/◌, ◌%◌, ◌^◌, ◌<◌, ◌≤◌, Bool, true, false, cond, eqb, ltb, leb, ◌⊎◌, List, [], ◌∷◌, length, get_or, set, ℤ, pos, negsuc, sym, refl, ap, ◌∙◌, subst, inl, inr, arith, length-set, get_or-set_other, get_or-set_same, ltb-false, ltb-true, eqb-true, leb-true}
 use lib.Bits.{and_lt, or_lt, xor_lt}
 use borrow.Author.Tests.{eqb-false}
 use Rattle.bytecode.specs.Stops.{Attempt, gives, stops, and_then}
@@ -9,7 +9,7 @@ use Rattle.bytecode.specs.declared.instruction.Operation.TheVariants.{Add, Sub, 
 use Rattle.heap.specs.declared.Cell.{Cell}
 use Rattle.heap.specs.declared.BlockRecord.{BlockRecord}
 use Rattle.heap.specs.Checked.{Layout, single, array, room, zeros, header, word_at, put_word}
-use Rattle.heap.specs.Storage.{Storage, Sound, Known, block_of, offset_of, no_cell, no_record, cell_in, record_in, record_of, unmarked, holding, from_bytes, to_bytes, with_cell, clear, laid, placed, has_room, Placement, place, new_single, new_array, by_sort, array_at, array_length, locate_in, locate, word_in, byte_in, number_in, word_into, byte_into, number_into, stored_in, load_word, load_byte, store_word, store_byte, store_reference}
+use Rattle.heap.specs.Storage.{Storage, Sound, Known, block_of, offset_of, no_cell, no_record, cell_in, record_in, record_of, unmarked, holding, from_bytes, to_bytes, with_cell, clear, laid, placed, Placement, place, new_single, new_array, array_length, locate_in, locate, word_in, byte_in, word_into, byte_into, number_into, stored_in, load_word, load_byte, store_word, store_byte, store_reference}
 use Rattle.word.specs.Words.{compute, wrap, undivided}
 use Rattle.runtime.specs.Relation.{Sized}
 

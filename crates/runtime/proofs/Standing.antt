@@ -1,16 +1,15 @@
 -- The law of a started machine, from the simulation of one step and the law of the checked machine.
-use Rattle.std.proofs.Common.{◌≡◌, ℕ, zero, suc, ◌+◌, ◌-◌, ◌<◌, ◌≤◌, List, [], ◌∷◌, ◌++◌, map, length, get_or, replicate, Some, None, Option, sym, refl, ap, ◌∙◌, subst, arith, length-append}
+use Rattle.std.proofs.Common.{◌≡◌, ℕ, ◌+◌, List, [], ◌∷◌, length, replicate, None, Option, sym, refl, ap, ◌∙◌, subst, arith}
 use lib.ListN.{length-replicate}
 use Rattle.std.proofs.lemmas.List.{append-nil}
-use Rattle.bytecode.specs.declared.stop.Stop.{Stop}
 use Rattle.bytecode.specs.Program.{Program}
 use Rattle.heap.proofs.Standing.{stands}
 use Rattle.host.specs.Hosts.{Host, Lawful}
-use Rattle.plan.specs.Programs.{nth, function_at, variables_at, no_function}
-use Rattle.checked.specs.Runs.{Next, goes, ends, stops, breaks, Status, live, ended, stopped, broken, served, Request, handle_all, responses, Turn, allowance, serve, Lasting}
+use Rattle.plan.specs.Programs.{nth, variables_at, no_function}
+use Rattle.checked.specs.Runs.{Next, Request, handle_all, Turn, serve}
 use Rattle.checked.specs.Machine.{Value, Frame, frame, Conf, conf, Sizes, reserve, checked_machine}
 use Rattle.checked.specs.Machine as checked
-use Rattle.checked.specs.Law.{Plans, Accepted, NoLess, Kept, AllKeepLaws}
+use Rattle.checked.specs.Law.{Plans, Accepted, NoLess, AllKeepLaws}
 use Rattle.checked.specs.Sound.{Sound}
 use Rattle.checked.proofs.Pieces.{nth_some, nth-get_or}
 use Rattle.checked.proofs.Sounding.{Fine, step_fine}
@@ -18,7 +17,7 @@ use Rattle.checked.proofs.Running.{threads}
 use Rattle.checked.proofs.Standing.{begins_sound, law_holds}
 use Rattle.runtime.specs.Runtime.{State, begins, runtime_machine}
 use Rattle.runtime.specs.Runtime as running
-use Rattle.runtime.specs.Relation.{Small, Holds, flat, Lays, Represents, Represented, Same, go, end, stop, Alike, lives, done, halts}
+use Rattle.runtime.specs.Relation.{Small, flat, Lays, Represented, Same, go, end, stop, Alike, lives}
 use Rattle.runtime.specs.Law.{Unused, Memory, sizes_of, Enough, begun, checked_begun, SameCells, Law}
 use Rattle.runtime.proofs.Laying.{lays_unset}
 use Rattle.runtime.proofs.Stepping.{step_same}

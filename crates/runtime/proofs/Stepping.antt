@@ -1,34 +1,34 @@
 -- A step of the running machine is a step of the checked machine that it represents.
-use Rattle.std.proofs.Common.{◌≡◌, ℕ, zero, suc, ◌+◌, ◌-◌, ◌^◌, ◌<◌, ◌≤◌, Bool, true, false, cond, not, eqb, ltb, List, [], ◌∷◌, ◌++◌, map, reverse, length, get_or, ℤ, Some, None, Option, sym, refl, ap, ◌∙◌, subst, subst₂, arith, ltb-true, lt-ltb, eqb-true}
+use Rattle.std.proofs.Common.{◌≡◌, ℕ, ◌+◌, ◌-◌, ◌^◌, ◌<◌, ◌≤◌, Bool, true, false, cond, not, eqb, ltb, List, [], ◌∷◌, map, reverse, length, get_or, ℤ, Some, None, Option, sym, refl, ap, ◌∙◌, subst, subst₂, arith, ltb-true, lt-ltb, eqb-true}
 use Rattle.bytecode.specs.declared.kind.Kind.{Kind}
 use Rattle.bytecode.specs.declared.kind.Kind.TheVariants.{Unknown, Word, Reference as Ref}
 use Rattle.bytecode.specs.declared.instruction.Instruction.{Instruction}
 use Rattle.bytecode.specs.declared.instruction.Instruction.TheVariants.{Nop, Pop, Dup, Swap, AconstNull, Aldc, Bipush, Ildc, Vload, Vstore, Binary, IfCmpeq, IfCmpne, IfIcmp, Goto, Invokestatic, Invokenative, Return, New, Newarray, Arraylength, Aaddf, Aadds, Imload, Cmload, Amload, Imstore, Cmstore, Amstore}
 use Rattle.bytecode.specs.Instructions.{size_of, decode_at, target}
-use Rattle.bytecode.specs.Outcome.{Out, bad, good}
+use Rattle.bytecode.specs.Outcome.{good}
 use Rattle.bytecode.specs.Program.{Program, Function, Native}
-use Rattle.heap.specs.Checked.{Heap, Reference, null, text, block, new, newarray, arraylength, aaddf, aadds, imload, cmload, amload, imstore, cmstore, amstore}
-use Rattle.heap.specs.Storage.{Known, block_of, offset_of, new_single, new_array, array_length, add_index, add_field, load_word, load_byte, load_reference, store_word, store_byte, store_reference, reference_of}
+use Rattle.heap.specs.Checked.{Heap, null, text, block, newarray, arraylength, aaddf, aadds, imload, cmload, amload, imstore, cmstore, amstore}
+use Rattle.heap.specs.Storage.{block_of, offset_of, new_array, array_length, add_index, add_field, load_word, load_byte, load_reference, store_word, store_byte, store_reference}
 use Rattle.heap.proofs.Standing.{stands}
 use Rattle.host.specs.Hosts.{Host, Lawful}
 use Rattle.word.specs.Words.{compute, holds, wrap}
 use Rattle.plan.specs.Programs.{nth, function_at, variables_at}
 use Rattle.plan.specs.Shapes.{Shape}
-use Rattle.plan.specs.Effects.{effect, fixed, perform, performed, within, call_static, call_native}
+use Rattle.plan.specs.Effects.{effect, fixed, performed, within, call_static, call_native}
 use Rattle.plan.specs.Plans.{Hits, Lands, successors, shape_at}
-use Rattle.checked.specs.Runs.{Next, goes, ends, stops as halts, breaks}
-use Rattle.checked.specs.Machine.{Value, word, reference, kind_of, Frame, frame, Conf, conf, Sizes, reserve, reserved, arguments, taken, found, room_for, took_arguments, only_value, is_kind, attempt, pop_word, resume, branch, enter, return, ask, exec, step}
+use Rattle.checked.specs.Runs.{goes, breaks}
+use Rattle.checked.specs.Machine.{Value, word, reference, kind_of, Frame, frame, Conf, conf, Sizes, reserve, arguments, found, room_for, took_arguments, only_value, is_kind, attempt, pop_word, resume, enter, return, ask, exec, step}
 use Rattle.checked.specs.Law.{Plans, Accepted}
 use Rattle.checked.specs.Sound.{Held, Fits, Callers, main, more, Sound}
-use Rattle.checked.proofs.Stacking.{Kinded, bare, words, refs, kinded_at, kinded_length, Replaced, replaced, loads, stores, pops, doubles, swaps, pairs, gives_result, Given, given, is_kind_lem}
+use Rattle.checked.proofs.Stacking.{Kinded, bare, words, refs, kinded_at, Replaced, replaced, loads, stores, pops, doubles, swaps, pairs, gives_result, given, is_kind_lem}
 use Rattle.checked.proofs.Pieces.{nth_some, nth-get_or, length-map, held_value}
 use Rattle.checked.proofs.Sounding.{good_plan, is_function}
 use Rattle.runtime.specs.Runtime.{State, slot, Came, went, lifted, called, returned, act, acted, fetched}
 use Rattle.runtime.specs.Runtime as running
-use Rattle.runtime.specs.Relation.{Small, Stands, flat, Represents, Represented, Same, go, end, stop}
-use Rattle.runtime.proofs.Sizing.{Word32, compute_word, wrap_word, load_word_lem, load_byte_lem, length-word, kept_store_word, kept_store_byte, kept_store_reference, kept_new, kept_newarray}
+use Rattle.runtime.specs.Relation.{Small, Stands, flat, Represents, Represented, Same, go}
+use Rattle.runtime.proofs.Sizing.{compute_word, wrap_word, load_word_lem, load_byte_lem, length-word, kept_store_word, kept_store_byte, kept_store_reference, kept_new, kept_newarray}
 use Rattle.runtime.proofs.Framing.{flat_length, stack_low, taken_slots}
-use Rattle.runtime.proofs.Simulating.{put, room_same, push_same, found_same, load_same, nop_same, pop_same, dup_same, swap_same, store_same, binary_same, order_same, equal_same, jump_same, branch_same, word_at_same, reference_at_same, aadds_same, store_word_same, store_reference_same, placed_same, one, word_in_lem}
+use Rattle.runtime.proofs.Simulating.{put, room_same, push_same, found_same, load_same, nop_same, pop_same, dup_same, swap_same, store_same, binary_same, order_same, equal_same, branch_same, word_at_same, reference_at_same, aadds_same, store_word_same, store_reference_same, placed_same, one, word_in_lem}
 use Rattle.runtime.proofs.Calling.{enter_same, return_same, ask_same}
 
 ne_eqb : (a b : ℕ) → (a ≡ b → ⊥) → eqb a b ≡ false

@@ -1,14 +1,14 @@
 -- What a started machine is owed, over every list of requests: it gives the checked machine's answers and host calls, holds what
 -- the checked machine holds, never breaks, and its stacks are as the fullest plans say; and a twin with no less memory comes to
 -- the same end.
-use Rattle.std.specs.Prelude.{◌≡◌, ℕ, ◌+◌, ◌^◌, ◌<◌, ◌≤◌, List, [], length}
+use Rattle.std.specs.Prelude.{◌≡◌, ℕ, ◌+◌, ◌^◌, ◌<◌, ◌≤◌, List, length}
 use Rattle.bytecode.specs.declared.stop.Stop.{Stop}
 use Rattle.bytecode.specs.Program.{Program}
 use Rattle.heap.specs.Storage.{Storage}
 use Rattle.heap.specs.Relation.{Match}
 use Rattle.host.specs.Hosts.{Host, Lawful}
 use Rattle.plan.specs.Programs.{variables_at}
-use Rattle.checked.specs.Runs.{Status, live, ended, stopped, broken, served, Request, handle_all, responses, Turn, allowance, serve, threaded, Lasting}
+use Rattle.checked.specs.Runs.{Status, live, ended, stopped, served, Request, handle_all, responses, Turn, allowance, serve, threaded, Lasting}
 use Rattle.checked.specs.Machine.{Conf, conf, Sizes, checked_machine}
 use Rattle.checked.specs.Machine as checked
 use Rattle.checked.specs.Law.{Plans, NoLess, Kept, AllKeepLaws}

@@ -1,6 +1,6 @@
 -- The machine as it runs: variables and operand stacks are numbers in slots, without kinds; calling frames are records;
 -- blocks lie in storage. A word is its 32 bits, a reference its number.
-use Rattle.std.specs.Prelude.{ℕ, zero, suc, ◌+◌, ◌-◌, ◌%◌, ◌^◌, Bool, true, false, cond, not, List, [], ◌∷◌, ◌++◌, length, set, ℤ, Some, None, Option, ◌==◌, nat_le, nat_lt, slice_index, slice_index_or, slice_set}
+use Rattle.std.specs.Prelude.{ℕ, zero, suc, ◌+◌, ◌-◌, ◌%◌, ◌^◌, Bool, true, false, cond, not, List, [], ◌∷◌, length, ℤ, Some, None, Option, ◌==◌, nat_le, nat_lt, slice_index, slice_index_or, slice_set}
 use Rattle.bytecode.specs.declared.kind.Kind.{Kind}
 use Rattle.bytecode.specs.declared.kind.Kind.TheVariants.{Unknown, Word, Reference as Ref}
 use Rattle.bytecode.specs.declared.stop.Stop.{Stop}
@@ -8,15 +8,13 @@ use Rattle.bytecode.specs.declared.stop.Stop.TheVariants.{Calls, Native as NoNat
 use Rattle.bytecode.specs.declared.instruction.Instruction.{Instruction}
 use Rattle.bytecode.specs.declared.instruction.Instruction.TheVariants.{Nop, Pop, Dup, Swap, AconstNull, Aldc, Bipush, Ildc, Vload, Vstore, Binary, IfCmpeq, IfCmpne, IfIcmp, Goto, Invokestatic, Invokenative, Return, New, Newarray, Arraylength, Aaddf, Aadds, Imload, Cmload, Amload, Imstore, Cmstore, Amstore}
 use Rattle.bytecode.specs.Instructions.{size_of, decode_at, target}
-use Rattle.bytecode.specs.Program.{Program, Function, Native, Signature}
+use Rattle.bytecode.specs.Program.{Program, Function, Native}
 use Rattle.bytecode.specs.Stops.{Attempt, gives, stops}
-use Rattle.plan.specs.Programs.{nth, function_at, variables_at}
+use Rattle.plan.specs.Programs.{nth, variables_at}
 use Rattle.heap.specs.Storage.{Storage, new_single, new_array, array_length, add_index, add_field, load_word, load_byte, load_reference, store_word, store_byte, store_reference}
 use Rattle.word.specs.Words.{compute, holds, wrap}
 use Rattle.host.specs.Hosts.{Host, Call, Text, no_text, text_at}
-use Rattle.host.specs.declared.call.Argument
 use Rattle.host.specs.declared.call.Argument.{Argument}
-use Rattle.host.specs.declared.call.Reply
 use Rattle.host.specs.declared.call.Reply.{Reply}
 use Rattle.checked.specs.Runs.{Next, goes, ends, stops as halts, breaks, View, Machine}
 use Rattle.checked.specs.Machine.{reserve, agrees}

@@ -1,4 +1,6 @@
 // The machine as it runs: numbers in slots, without kinds. Its frame records, and that it is the checked machine.
+#![tactic(auto)]
+
 ghost use Rattle.bytecode.specs.Program.{Program};
 ghost use Rattle.host.specs.Hosts.{Host, Lawful};
 ghost use Rattle.runtime.specs.Behaviour.{Behaves};

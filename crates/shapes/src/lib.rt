@@ -1,4 +1,6 @@
 // Shapes in memory: the records of the verifier's table, what two become that meet, and what an instruction makes of one.
+#![tactic(auto)]
+
 pub mod act;
 mod kinds;
 pub mod table;

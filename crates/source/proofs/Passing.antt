@@ -1,12 +1,12 @@
 -- One turn of the loop that passes blanks and comments: the text means the same from the next character on.
-use Rattle.std.proofs.Common.{◌≡◌, ℕ, ◌+◌, ◌<◌, ◌≤◌, Bool, true, false, cond, not, eqb, List, [], ◌∷◌, length, get_or, drop, sym, refl, ap, ◌∙◌, arith}
+use Rattle.std.proofs.Common.{◌≡◌, ℕ, ◌+◌, ◌<◌, ◌≤◌, Bool, true, false, cond, not, eqb, List, ◌∷◌, length, get_or, drop, sym, refl, ◌∙◌, arith}
 use Rattle.std.proofs.lemmas.List.{at_drop_all, at_drop_more}
 use Rattle.std.proofs.lemmas.Bool.{eqb-true, eqb-false}
 use Rattle.source.specs.declared.hex.Position.{Position}
 use Rattle.source.specs.declared.hex.TextFault.{TextFault}
 use Rattle.source.specs.Rest.{Rest}
 use Rattle.source.specs.Hex.{blank, advanced, between, comment}
-use Rattle.source.proofs.Characters.{at_end, at_one, nothing_left, comment_left, comment_on, comment_ends, comment_begins, blank_on}
+use Rattle.source.proofs.Characters.{at_end, at_one, comment_left, comment_on, comment_ends, comment_begins, blank_on}
 
 -- what the text means from an offset on, within a comment or between bytes
 abbrev pub reading : Bool → List ℕ → ℕ → Position → Rest Position TextFault

@@ -1,4 +1,6 @@
 // Bytes with their places, read from raw bytes or from hex text, and how they are loaded to lent memory.
+#![tactic(auto)]
+
 ghost use Rattle.std.specs.Prelude.{◌≡◌};
 ghost use Rattle.source.specs.Rest.{Rest, next_of, after_next, place_of};
 

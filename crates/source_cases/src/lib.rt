@@ -1,3 +1,5 @@
+#![tactic(auto)]
+
 // Cases of raw bytes, hex text and load, each with the whole buffer that they leave.
 #[cfg(test)]
 mod tests {

@@ -1,8 +1,8 @@
 -- What a stack over a list holds after one entry is put on, taken off or written, and after it is cut.
-use Rattle.std.proofs.Common.{◌≡◌, ℕ, ◌+◌, ◌-◌, ◌<◌, ◌≤◌, min, Bool, true, false, cond, ltb, List, [], ◌∷◌, ◌++◌, reverse, length, get_or, take, drop, set, Some, None, sym, refl, ap, ◌∙◌, subst, arith, length-drop, take-append-drop, length-take-le, take-take, le-ltb, lt-ltb}
+use Rattle.std.proofs.Common.{◌≡◌, ℕ, ◌+◌, ◌-◌, ◌<◌, ◌≤◌, Bool, true, false, cond, ltb, List, [], ◌∷◌, ◌++◌, reverse, length, get_or, take, drop, set, Some, None, sym, ap, ◌∙◌, subst, arith, length-drop, take-append-drop, length-take-le, take-take, le-ltb, lt-ltb}
 use mathlib.Core.List.{reverse-append}
 use lib.ListN.{length-reverse}
-use lib.Seq.{drop-append_seam, take-set-lt}
+use lib.Seq.{drop-append_seam}
 use Rattle.std.proofs.lemmas.List.{take_more, take_more_set, get_or-reverse, get_or-take, set_past}
 use Rattle.std.proofs.lemmas.Option.{slice_get-get_or, slice_get_past}
 use Rattle.std.specs.List.{slice_get}

@@ -1,4 +1,6 @@
 // A bounded stack over lent memory, for every sort of entry.
+#![tactic(auto)]
+
 ghost use Rattle.std.specs.Prelude.{◌≡◌, []};
 ghost use Rattle.stack.specs.Stacks.{entries, held};
 

@@ -1,5 +1,7 @@
 // A tour for a new user: a homing program from its text to its end, then one that is refused and one that stops, each with what is
 // promised at that point.
+#![tactic(auto)]
+
 use std::io;
 use visit::visit;
 

@@ -1,5 +1,7 @@
 // Checks a package given as hex text on standard input, and prints its verdict: `accepted` with the numbers of bytes, functions and
 // takes, or `refused` with the number of the check that failed and its place.
+#![tactic(auto)]
+
 use shapes::table::blank_record;
 use source::hex::HexText;
 use source::loader::{LIMIT, load};

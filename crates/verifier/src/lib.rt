@@ -1,4 +1,6 @@
 // The verifier: decodes and sweeps a package's code, and accepts the package or names the first check that it fails.
+#![tactic(auto)]
+
 mod effect;
 mod flow;
 pub mod program;

@@ -1,5 +1,7 @@
 // Cases of check: prints the verdict on each line of standard input, a package in hex text, for a table of 4,096 records and for
 // one of 8. After a refusal the table has to be blank.
+#![tactic(auto)]
+
 ghost use Rattle.std.specs.Prelude.{IfOk};
 ghost use Rattle.verifier.specs.Checking.{Checked};
 

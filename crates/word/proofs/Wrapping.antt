@@ -1,5 +1,5 @@
 -- Wrapping is the modulus over whole numbers, and what a product of bits leaves is the product of their values, wrapped.
-use Rattle.std.proofs.Common.{◌≡◌, ℕ, ◌+◌, ◌-◌, ◌*◌, ◌/◌, ◌%◌, ◌^◌, ◌<◌, ℤ, pos, negsuc, ◌+ℤ◌, ◌*ℤ◌, nat_abs, sym, refl, ap, ◌∙◌, arith, w32, to_z, of_z}
+use Rattle.std.proofs.Common.{◌≡◌, ℕ, ◌*◌, ◌/◌, ◌%◌, ◌^◌, ◌<◌, ℤ, pos, negsuc, ◌*ℤ◌, nat_abs, sym, refl, ap, ◌∙◌, arith, w32, to_z, of_z}
 use Rattle.std.specs.Int.{int_rem_euclid, int_wrap}
 use Rattle.std.proofs.lemmas.Int.{of_z-to_z, wrapping_mul-bits, ints}
 use Rattle.word.specs.Words.{wrap}

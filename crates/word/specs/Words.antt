@@ -1,5 +1,5 @@
 -- Arithmetic and comparisons of words. A word is its 32 bits, a number below 2^32; its value is a signed whole number.
-use Rattle.std.specs.Prelude.{ℕ, ◌+◌, ◌-◌, ◌*◌, ◌%◌, ◌^◌, Bool, true, false, cond, ℤ, pos, negsuc, ◌+ℤ◌, ◌-ℤ◌, ◌*ℤ◌, Ok, Err, Result, ◌==◌, bit_and, bit_or, bit_xor, int_div, int_le, int_lt, int_rem}
+use Rattle.std.specs.Prelude.{ℕ, ◌-◌, ◌*◌, ◌%◌, ◌^◌, Bool, true, false, cond, ℤ, pos, negsuc, ◌+ℤ◌, ◌-ℤ◌, ◌*ℤ◌, Ok, Err, Result, ◌==◌, bit_and, bit_or, bit_xor, int_div, int_le, int_lt, int_rem}
 use Rattle.std.specs.Int.Signed.{shr_z}
 use Rattle.std.proofs.Common.{to_z}
 use Rattle.std.specs.Int.{w32}

@@ -1,4 +1,6 @@
 // Guest arithmetic and comparisons, on the bits of 32-bit words.
+#![tactic(auto)]
+
 ghost use Rattle.std.specs.Prelude.{◌≡◌, ◌<◌, ℤ, int_div, int_rem};
 ghost use Rattle.word.specs.Samples.{Samples, Modulus, answers};
 ghost use Rattle.word.specs.Words.{compute as computed, holds as compared, attempted, undivided as stopping, value_of, wrap};

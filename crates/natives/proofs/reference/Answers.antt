@@ -1,10 +1,8 @@
 use Rattle.std.proofs.Common.{◌≡◌, ℕ, suc, ◌+◌, ◌<◌, ◌≤◌, Bool, true, false, List, length, get_or, drop, sym, ap, ◌∙◌, ap₂, arith}
 use Rattle.bytecode.specs.declared.kind.Kind.{Kind}
 use Rattle.bytecode.specs.declared.kind.Kind.TheVariants.{Unknown, Reference as Ref}
-use Rattle.plan.specs.Programs.{nth}
 use Rattle.reader.specs.View.{program_of, native_in}
 use Rattle.checked.specs.Machine.{same_kind}
-use Rattle.runtime.specs.Runtime.{numbers_from}
 use Rattle.natives.proofs.Gathering.{found, numbers_turn, numbers_none}
 use Rattle.natives.proofs.reference.Goals as goal
 use Rattle.natives.proofs.reference.Goals.{then-same_kind+else-left-eq0, else-same_kind}

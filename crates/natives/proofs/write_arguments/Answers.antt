@@ -1,4 +1,4 @@
-use Rattle.std.proofs.Common.{◌≡◌, ℕ, ◌<◌, ◌≤◌, List, length, get_or, sym, ap, ◌∙◌, arith}
+use Rattle.std.proofs.Common.{◌≡◌, ℕ, ◌<◌, List, length, get_or, ap, ◌∙◌, arith}
 use Rattle.bytecode.specs.declared.kind.Kind.{Kind}
 use Rattle.reader.specs.View.{program_of, native_in}
 use Rattle.runtime.specs.Runtime.{argument_of}

@@ -1,5 +1,5 @@
 use Rattle.std.proofs.Common.{◌≡◌, ℕ, ◌^◌, negsuc, Ok, Err, Result, refl, ap, ◌∙◌}
-use Rattle.bytecode.specs.declared.instruction.Operation.TheVariants.{Div, Rem, Shl}
+use Rattle.bytecode.specs.declared.instruction.Operation.TheVariants.{Div, Rem}
 use Rattle.bytecode.specs.declared.stop.Stop.{Stop}
 use Rattle.bytecode.specs.declared.stop.Stop.TheVariants.{Divide}
 use Rattle.bytecode.specs.Stops.{gives, stops}

@@ -1,4 +1,4 @@
-use Rattle.std.proofs.Common.{◌≡◌, ℕ, ◌-◌, ◌<◌, ◌≤◌, get_or, Some, ap, ◌∙◌, ap₂, arith, rules}
+use Rattle.std.proofs.Common.{◌-◌, ◌<◌, ◌≤◌, get_or, Some, ap, ◌∙◌, ap₂, arith, rules}
 use Rattle.stack.specs.Stacks.{entries}
 use Rattle.reader.specs.View.{program_of}
 use Rattle.runtime.specs.Runtime.{State, no_frame, end_of}

@@ -1,5 +1,5 @@
 use Rattle.std.proofs.Common.{sym, ap, ◌∙◌}
-use Rattle.bytecode.specs.Program.{Program, Function}
+use Rattle.bytecode.specs.Program.{Program}
 use Rattle.plan.specs.Programs.{function_at}
 use Rattle.reader.specs.View.{program_of}
 use Rattle.runtime.specs.Runtime.{called}

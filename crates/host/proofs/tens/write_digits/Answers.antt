@@ -1,4 +1,4 @@
-use Rattle.std.proofs.Common.{◌^◌, ◌<◌, ◌≤◌, length, arith}
+use Rattle.std.proofs.Common.{◌≤◌, arith}
 use Rattle.host.proofs.Spelling.{nothing_written, two_more, digit_more, all_written}
 use Rattle.host.proofs.tens.write_digits.Goals as goal
 

@@ -1,4 +1,4 @@
-use Rattle.std.proofs.Common.{◌≡◌, ◌<◌, ◌≤◌, length, take, subst, arith}
+use Rattle.std.proofs.Common.{◌≡◌, ◌<◌, length, take, subst, arith}
 use Rattle.host.specs.Hosts.{until_zero}
 use Rattle.host.proofs.Finding.{found_zero, one_further, none_found}
 use Rattle.host.proofs.text.before_zero.Goals as goal

@@ -1,4 +1,4 @@
-use Rattle.std.proofs.Common.{◌≡◌, ◌<◌, sym, refl, ap, subst, arith}
+use Rattle.std.proofs.Common.{◌≡◌, ◌<◌, sym, refl, subst, arith}
 use Rattle.machine.specs.Runs.{Going}
 use Rattle.machine.proofs.Running.{going_first, going_next, run_ends, run_stops, run_continues}
 use Rattle.machine.proofs.Machine.go.Goals as goal

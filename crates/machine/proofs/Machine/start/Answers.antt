@@ -1,8 +1,8 @@
-use Rattle.std.proofs.Common.{◌≡◌, ℕ, ◌+◌, ◌^◌, ◌<◌, ◌≤◌, length, sym, refl, ap, ◌∙◌, subst, subst₂, arith}
+use Rattle.std.proofs.Common.{◌≡◌, ◌+◌, ◌<◌, ◌≤◌, length, sym, ap, ◌∙◌, subst, subst₂, arith}
 use Rattle.plan.specs.Programs.{variables_at}
 use Rattle.reader.specs.View.{program_of, Fitting}
 use Rattle.checked.specs.Runs.{live}
-use Rattle.runtime.specs.Runtime.{State, begins}
+use Rattle.runtime.specs.Runtime.{begins}
 use Rattle.runtime.specs.Law.{sizes_of}
 use Rattle.runtime.proofs.Standing.{law_stands}
 use Rattle.ready.specs.Ready.{Ready}

@@ -1,4 +1,4 @@
-use Rattle.std.proofs.Common.{◌≡◌, is_some, sym, ap, ◌∙◌}
+use Rattle.std.proofs.Common.{is_some, sym, ap, ◌∙◌}
 use Rattle.plan.specs.Programs.{function_at}
 use Rattle.reader.specs.View.{program_of}
 use Rattle.machine.proofs.Fetching.{fetched_is}

@@ -1,6 +1,5 @@
-use Rattle.std.proofs.Common.{◌≡◌, ℕ, ◌-◌, ◌<◌, ◌≤◌, Bool, true, false, List, length, take, drop, sym, refl, ap, ◌∙◌, subst, arith}
+use Rattle.std.proofs.Common.{◌≡◌, ◌<◌, ◌≤◌, true, false, length, take, drop, sym, refl, ap, ◌∙◌, subst, arith}
 use Rattle.bytecode.specs.Program.{Program, Native}
-use Rattle.host.specs.declared.call.Reply
 use Rattle.host.specs.declared.call.Reply.{Reply}
 use Rattle.plan.specs.Programs.{nth}
 use Rattle.reader.specs.View.{program_of}

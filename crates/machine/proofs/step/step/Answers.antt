@@ -1,11 +1,11 @@
-use Rattle.std.proofs.Common.{◌≡◌, ℕ, ◌+◌, ◌<◌, ◌≤◌, true, length, is_some, Some, Option, sym, refl, ap, ◌∙◌, subst, ap₂, subst₂, arith}
+use Rattle.std.proofs.Common.{◌≡◌, ◌+◌, ◌<◌, true, length, is_some, Some, Option, sym, ap, ◌∙◌, subst, ap₂, subst₂, arith}
 use Rattle.bytecode.specs.declared.instruction.Instruction.{Instruction}
 use Rattle.bytecode.specs.Instructions.{size_of, decode_at}
 use Rattle.bytecode.specs.Program.{Program}
 use Rattle.plan.specs.Programs.{function_at}
 use Rattle.reader.specs.View.{program_of}
 use Rattle.runtime.specs.Runtime.{State, act}
-use Rattle.ready.specs.Ready.{Whole, Safe, Fetched}
+use Rattle.ready.specs.Ready.{Whole, Safe}
 use Rattle.ready.proofs.Safety.{fetched}
 use Rattle.ready.proofs.Staying.{step_is, step_whole}
 use Rattle.execution.specs.View.{state_of}

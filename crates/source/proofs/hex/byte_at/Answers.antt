@@ -1,6 +1,5 @@
-use Rattle.std.proofs.Common.{◌≡◌, ◌+◌, ◌<◌, ◌≤◌, length, get_or, drop, sym, ap, ◌∙◌, arith}
+use Rattle.std.proofs.Common.{◌+◌, ◌<◌, length, get_or, drop, sym, ap, ◌∙◌, arith}
 use Rattle.source.specs.Rest.{next_of}
-use Rattle.source.specs.Hex.{digit_of}
 use Rattle.source.proofs.Characters.{at_end, at_one, at_last, at-two, bad_here, lone_last, lone_here, byte-here}
 use Rattle.source.proofs.hex.byte_at.Goals as goal
 

@@ -1,6 +1,6 @@
-use Rattle.std.proofs.Common.{◌≡◌, ◌+◌, ◌<◌, Bool, true, false, cond, not, eqb, length, get_or, drop, sym, ap, ◌∙◌, subst, arith}
+use Rattle.std.proofs.Common.{◌≡◌, ◌+◌, ◌<◌, Bool, length, get_or, drop, sym, ◌∙◌, subst, arith}
 use Rattle.source.specs.declared.hex.Cursor.{Cursor}
-use Rattle.source.specs.Hex.{advanced, between, comment}
+use Rattle.source.specs.Hex.{advanced, between}
 use Rattle.source.specs.Skipping.{Inside}
 use Rattle.source.proofs.Passing.{reading, commented, comment-begun, blank-passed, read_to_end, few_lines, few_columns}
 use Rattle.source.proofs.hex.skip_blanks.Goals as goal

@@ -1,6 +1,6 @@
-use Rattle.std.proofs.Common.{◌≡◌, ◌<◌, ◌≤◌, min, length, Some, None, Ok, Err, sym, refl, ap, ◌∙◌, arith, rules}
+use Rattle.std.proofs.Common.{◌≡◌, Some, None, Ok, Err, sym, refl, ap, ◌∙◌, arith, rules}
 use Rattle.std.proofs.lemmas.Result.{err_from_is_err_and}
-use Rattle.source.specs.Rest.{next_of, place_of}
+use Rattle.source.specs.Rest.{next_of}
 use Rattle.source.proofs.Loading.{result, begun, copied-one, moved, fault-met, too_long, all-copied, none_placed}
 use Rattle.source.proofs.loader.load.Goals as goal
 

@@ -1,4 +1,4 @@
-use Rattle.std.proofs.Common.{◌≤◌, sym, refl, arith}
+use Rattle.std.proofs.Common.{◌≤◌, refl, arith}
 use Rattle.stack.proofs.Holding.{cut_off}
 use Rattle.stack.proofs.Stack.truncate.Goals as goal
 

@@ -1,4 +1,4 @@
-use Rattle.std.proofs.Common.{◌-◌, map, length, sym, ap, ◌∙◌, arith, length-drop, length-take, rules}
+use Rattle.std.proofs.Common.{map, length, sym, ap, ◌∙◌, arith, length-drop, length-take, rules}
 use Rattle.std.proofs.lemmas.Slice.{overwrites}
 use Rattle.std.proofs.lemmas.Result.{err_from_is_err_and}
 use Rattle.bytecode.specs.Instructions.{starts_of}

@@ -1,4 +1,4 @@
-use Rattle.std.proofs.Common.{◌≡◌, ℕ, ◌-◌, ◌*◌, ◌<◌, ◌≤◌, map, take, drop}
+use Rattle.std.proofs.Common.{◌≡◌, ℕ, ◌*◌, ◌<◌, ◌≤◌, map, take, drop}
 use Rattle.bytecode.specs.Outcome.{good}
 use Rattle.plan.specs.Sweep.{sweep_function}
 use Rattle.plan.specs.Judgement.{bytes_from}

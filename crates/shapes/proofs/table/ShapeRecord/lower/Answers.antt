@@ -1,4 +1,4 @@
-use Rattle.std.proofs.Common.{◌-◌, arith}
+use Rattle.std.proofs.Common.{arith}
 use Rattle.shapes.proofs.Stacks.{tidy_lowered, shape_lowered}
 use Rattle.shapes.proofs.table.ShapeRecord.lower.Goals as goal
 

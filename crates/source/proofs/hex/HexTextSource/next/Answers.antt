@@ -1,6 +1,6 @@
-use Rattle.std.proofs.Common.{◌≡◌, ◌+◌, ◌≤◌, drop, Some, None, Ok, sym, refl, ap, ◌∙◌, subst, arith}
+use Rattle.std.proofs.Common.{◌≡◌, ◌+◌, drop, Some, None, Ok, sym, ap, ◌∙◌, subst, arith}
 use Rattle.source.specs.declared.hex.Cursor.{Cursor}
-use Rattle.source.specs.Rest.{next_of, after_next, byte}
+use Rattle.source.specs.Rest.{next_of, after_next}
 use Rattle.source.specs.Hex.{between, right}
 use Rattle.source.specs.Skipping.{Inside}
 use Rattle.source.proofs.Answering.{end_stays}
