@@ -2,7 +2,7 @@
 use Rattle.std.proofs.Common.{◌≡◌, ℕ, zero, suc, ◌+◌, ◌<◌, ◌≤◌, true, false, ltb, leb, List, [], ◌∷◌, get_or, Some, refl, ap, subst, arith, ltb-true, lt-ltb, le-leb, leb-true}
 use borrow.Author.Tests.{lt-leb}
 use Rattle.std.proofs.lemmas.Bool.{and_parts, and_from, and_right}
-use Rattle.std.specs.List.{AllByRecursion as All}
+use Rattle.std.specs.List.{AllByRecursion}
 use Rattle.bytecode.specs.Program.{Function}
 use Rattle.bytecode.specs.Program as bytecode
 use Rattle.heap.specs.declared.Cell.{Cell}
@@ -60,7 +60,7 @@ sizes_too_few P sizes lt =
     and_right (leb sizes.slots 8192) _ (and_right (ltb 0 sizes.frames) _ (and_right (leb sizes.frames 64) _ (and_right (leb sizes.cells 4096) _
     (and_right (leb sizes.records 1024) _ (lt-leb (reserve (nth P.functions 0)) sizes.slots lt)))))
 
-all_nth : {X : Type 0} (Q : X → Type 0) (xs : List X) (i : ℕ) (x : X) → All Q xs → nth xs i ≡ Some x → Q x
+all_nth : {X : Type 0} (Q : X → Type 0) (xs : List X) (i : ℕ) (x : X) → AllByRecursion Q xs → nth xs i ≡ Some x → Q x
 all_nth Q [] i x h e = absurd (let z : ◌≡◌ {A = ℕ} 0 1 = cc in let b : ⊥ = omega arith in b)
 all_nth Q (y ∷ xs) zero x h e = let q : y ≡ x = cc in subst Q q h.0
 all_nth Q (y ∷ xs) (suc i) x h e = all_nth Q xs i x h.1 e

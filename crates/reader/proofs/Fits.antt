@@ -3,7 +3,7 @@ use Rattle.std.proofs.Common.{◌≡◌, ℕ, ◌+◌, ◌*◌, ◌<◌, ◌≤�
 use lib.ListN.{length-map}
 use Rattle.std.proofs.lemmas.List.{length-take-le, length-drop}
 use Rattle.std.proofs.lemmas.List.FromFn.{length-map-range_with_len}
-use Rattle.std.specs.List.{AllByRecursion as All}
+use Rattle.std.specs.List.{AllByRecursion}
 use Rattle.bytecode.specs.declared.kind.Kind.TheVariants.{Word, Reference}
 use Rattle.reader.specs.Fields.{byte, four, bytes_from}
 use Rattle.reader.specs.Layout.{kind_of}
@@ -23,7 +23,7 @@ mapped_length f xs n l = length-map (take n xs) f ∙ length-take-le n xs l
 letter_known : (x : ℕ) → KnownKind (kind_of x)
 letter_known x = elim (eqb x 0x77) as (λ b. KnownKind (cond b Word Reference)) [ true ↦ tt | false ↦ tt ]
 
-letters_known : (xs : List ℕ) → All KnownKind (map kind_of xs)
+letters_known : (xs : List ℕ) → AllByRecursion KnownKind (map kind_of xs)
 letters_known [] = tt
 letters_known (x ∷ xs) = (letter_known x, letters_known xs)
 
@@ -49,11 +49,11 @@ native_formed bs f h k =
     length-map (bytes_from bs (f.kinds + 1) f.arguments) kind_of ∙ bytes_length bs (f.kinds + 1) f.arguments k in
     record { few = omega (arith, m, h); takes = letters_known (bytes_from bs (f.kinds + 1) f.arguments); gives = letter_known (byte bs f.kinds) }
 
-functions_formed : (bs : List ℕ) (fs : List Function) → All (FunctionFits bs) fs → All (FunctionLettered bs) fs → All FunctionFormed (map (function_of bs) fs)
+functions_formed : (bs : List ℕ) (fs : List Function) → AllByRecursion (FunctionFits bs) fs → AllByRecursion (FunctionLettered bs) fs → AllByRecursion FunctionFormed (map (function_of bs) fs)
 functions_formed bs [] h k = tt
 functions_formed bs (f ∷ fs) h k = (function_formed bs f h.0 k.0, functions_formed bs fs h.1 k.1)
 
-natives_formed_lem : (bs : List ℕ) (fs : List Native) → All NativeFits fs → All (NativeLettered bs) fs → All NativeFormed (map (native_of bs) fs)
+natives_formed_lem : (bs : List ℕ) (fs : List Native) → AllByRecursion NativeFits fs → AllByRecursion (NativeLettered bs) fs → AllByRecursion NativeFormed (map (native_of bs) fs)
 natives_formed_lem bs [] h k = tt
 natives_formed_lem bs (f ∷ fs) h k = (native_formed bs f h.0 k.0, natives_formed_lem bs fs h.1 k.1)
 
@@ -62,7 +62,7 @@ natives_formed_lem bs (f ∷ fs) h k = (native_formed bs f h.0 k.0, natives_form
 pub fitting_from : (p : Package) → length p.functions ≡ 64 → length p.natives ≡ 32 → 0 < p.function_count → p.function_count ≤ 64 → p.native_count ≤ 32 →
     FrontFits p.bytes.now p.integers p.integer_count p.strings p.string_size →
     FunctionsKnown p.bytes.now (take p.function_count p.functions) → NativesKnown p.bytes.now (take p.native_count p.natives) →
-    All (FunctionBehind p.bytes.now) (take p.function_count p.functions) →
+    AllByRecursion (FunctionBehind p.bytes.now) (take p.function_count p.functions) →
     code_size (program_of p).functions ≡ p.code_size → Fitting p
 fitting_from p fs ns some few fewer front functions natives behind sum =
     record {

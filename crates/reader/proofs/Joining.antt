@@ -2,7 +2,7 @@
 use Rattle.std.proofs.Common.{◌≡◌, ℕ, ◌+◌, ◌<◌, ◌≤◌, eqb, List, [], ◌∷◌, map, length, get_or, take, sym, refl, ap, ◌∙◌, arith, eq-eqb}
 use Rattle.std.proofs.lemmas.List.{get_or-take, length-take-le}
 use Rattle.std.proofs.lemmas.Bool.{cond-true}
-use Rattle.std.specs.List.{AllByRecursion as All}
+use Rattle.std.specs.List.{AllByRecursion}
 use Rattle.bytecode.specs.declared.kind.Kind.TheVariants.{Word}
 use Rattle.bytecode.specs.Outcome.{Out, good, bind, refuse}
 use Rattle.bytecode.specs.Program.{Signature}
@@ -74,7 +74,7 @@ main_kept bs fs gs e h = sym (first_arguments bs fs) ∙ ap (λ es. (get_or es 0
     first_arguments bs (f ∷ fs) = refl
 
 pub functions_known : (bs : List ℕ) (fs gs : List Function) (n : ℕ) → 0 < n → n ≤ length gs → FunctionsFit bs (take n fs) →
-    map (function_entry_of bs) (take n gs) ≡ map (function_entry_of bs) (take n fs) → All (FunctionFits bs) (take n gs) → All (FunctionLettered bs) (take n gs) →
+    map (function_entry_of bs) (take n gs) ≡ map (function_entry_of bs) (take n fs) → AllByRecursion (FunctionFits bs) (take n gs) → AllByRecursion (FunctionLettered bs) (take n gs) →
     kind_of (byte bs (get_or gs 0 no_function_record).kinds) ≡ Word → FunctionsKnown bs (take n gs)
 functions_known bs fs gs n l k h e each lettered gives =
     let m : length (take n gs) ≡ n = length-take-le n gs k in

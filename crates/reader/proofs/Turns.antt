@@ -3,7 +3,7 @@ use Rattle.std.proofs.Common.{◌≡◌, ℕ, zero, suc, ◌+◌, ◌-◌, ◌*�
 use Rattle.std.proofs.lemmas.List.{take_more_set, map_push, length-take-le, length-map, get_or-map, get_or-take}
 use Rattle.std.proofs.ByRecursion.{All-push, All-set, All-get_or}
 use Rattle.std.proofs.lemmas.List.FromFn.{map-range_with_len_more}
-use Rattle.std.specs.List.{AllByRecursion as All}
+use Rattle.std.specs.List.{AllByRecursion}
 use Rattle.bytecode.specs.Outcome.{good, bad, bind, Fault}
 use Rattle.reader.specs.Fields.{byte, four, bytes_from, bytes_at}
 use Rattle.reader.specs.Layout.{integer_at, FunctionEntry, code_bytes, is_letter, are_letters}
@@ -17,9 +17,9 @@ pub filled_more : {X Y : Type 0} (f : X → Y) (xs : List X) (i : ℕ) (x : X) �
     map f (take i xs) ++ f x ∷ [] ≡ map f (take (i + 1) (set xs i x))
 filled_more f xs i x l = sym (map_push f (take i xs) x) ∙ ap (map f) (sym (take_more_set xs i x l))
 
-pub filled_all : {X : Type 0} (P : X → Type 0) (xs : List X) (i : ℕ) (x : X) → i < length xs → All P (take i xs) → P x →
-    All P (take (i + 1) (set xs i x))
-filled_all P xs i x l h k = subst (All P) (sym (take_more_set xs i x l)) (All-push P (take i xs) x h k)
+pub filled_all : {X : Type 0} (P : X → Type 0) (xs : List X) (i : ℕ) (x : X) → i < length xs → AllByRecursion P (take i xs) → P x →
+    AllByRecursion P (take (i + 1) (set xs i x))
+filled_all P xs i x l h k = subst (AllByRecursion P) (sym (take_more_set xs i x l)) (All-push P (take i xs) x h k)
 
 pub integers_more : (bs : List ℕ) (p q i : ℕ) → q ≡ p + 4 * i → integers_from bs p i ++ four bs q ∷ [] ≡ integers_from bs p (i + 1)
 integers_more bs p q i e =
@@ -90,10 +90,10 @@ pub kept_map : {X Y : Type 0} (f : X → Y) (xs : List X) (ys : List Y) (n i : �
 kept_map f xs ys n i x d l e h =
     ap (map f) (take-set-lt n xs i x l) ∙ map-set_same f (take n xs) i x d (e ∙ ap f (sym (get_or-take n xs i d l))) ∙ h
 
-pub kept_all : {X : Type 0} (P : X → Type 0) (xs : List X) (n i : ℕ) (x : X) → i < n → P x → All P (take n xs) → All P (take n (set xs i x))
-kept_all P xs n i x l k h = subst (All P) (sym (take-set-lt n xs i x l)) (All-set P (take n xs) i x k h)
+pub kept_all : {X : Type 0} (P : X → Type 0) (xs : List X) (n i : ℕ) (x : X) → i < n → P x → AllByRecursion P (take n xs) → AllByRecursion P (take n (set xs i x))
+kept_all P xs n i x l k h = subst (AllByRecursion P) (sym (take-set-lt n xs i x l)) (All-set P (take n xs) i x k h)
 
-pub all_at : {X : Type 0} (P : X → Type 0) (xs : List X) (n i : ℕ) (d : X) → n ≤ length xs → i < n → All P (take n xs) → P (get_or xs i d)
+pub all_at : {X : Type 0} (P : X → Type 0) (xs : List X) (n i : ℕ) (d : X) → n ≤ length xs → i < n → AllByRecursion P (take n xs) → P (get_or xs i d)
 all_at P xs n i d k l h =
     let m : length (take n xs) ≡ n = length-take-le n xs k in
     subst P (get_or-take n xs i d l) (All-get_or P (take n xs) i d (omega arith) h)
@@ -106,17 +106,17 @@ first_set P (y ∷ ys) (suc i) x d l h k = h (omega arith)
 
 -- ## Where codes end
 
-all_weaker : {X : Type 0} (P Q : X → Type 0) (xs : List X) → ((x : X) → P x → Q x) → All P xs → All Q xs
+all_weaker : {X : Type 0} (P Q : X → Type 0) (xs : List X) → ((x : X) → P x → Q x) → AllByRecursion P xs → AllByRecursion Q xs
 all_weaker P Q [] w h = tt
 all_weaker P Q (x ∷ xs) w h = (w x h.0, all_weaker P Q xs w h.1)
 
 -- one more function, which begins where the others have ended
-pub ends_more : (fs : List Function) (i : ℕ) (f : Function) (p : ℕ) → i < length fs → All (FunctionEnds p) (take i fs) → p ≤ f.code
-    → All (FunctionEnds (f.code + f.size)) (take (i + 1) (set fs i f))
+pub ends_more : (fs : List Function) (i : ℕ) (f : Function) (p : ℕ) → i < length fs → AllByRecursion (FunctionEnds p) (take i fs) → p ≤ f.code
+    → AllByRecursion (FunctionEnds (f.code + f.size)) (take (i + 1) (set fs i f))
 ends_more fs i f p l h k =
     let here : f.code + f.size ≤ f.code + f.size = omega arith in
     filled_all (FunctionEnds (f.code + f.size)) fs i f l (all_weaker (FunctionEnds p) (FunctionEnds (f.code + f.size)) (take i fs) (λ g e. omega arith) h) here
 
 -- two more bytes stand behind the functions
-pub ends_behind : (bs : List ℕ) (fs : List Function) (p : ℕ) → p + 2 ≤ length bs → All (FunctionEnds p) fs → All (FunctionBehind bs) fs
+pub ends_behind : (bs : List ℕ) (fs : List Function) (p : ℕ) → p + 2 ≤ length bs → AllByRecursion (FunctionEnds p) fs → AllByRecursion (FunctionBehind bs) fs
 ends_behind bs fs p l h = all_weaker (FunctionEnds p) (FunctionBehind bs) fs (λ g e. omega arith) h

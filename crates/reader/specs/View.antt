@@ -1,6 +1,6 @@
 -- What a package that was read stands for, and what is known of it.
 use Rattle.std.specs.Prelude.{◌≡◌, ℕ, ◌+◌, ◌-◌, ◌*◌, ◌^◌, ◌<◌, ◌≤◌, List, [], ◌∷◌, map, length, get_or, take, slice_index_or}
-use Rattle.std.specs.List.{range_with_len, AllByRecursion as All}
+use Rattle.std.specs.List.{range_with_len, AllByRecursion}
 use Rattle.bytecode.specs.declared.kind.Kind.{Kind}
 use Rattle.bytecode.specs.declared.kind.Kind.TheVariants.{Unknown, Word, Reference}
 use Rattle.bytecode.specs.Program as program
@@ -97,7 +97,7 @@ pub record BytesAt (code : List ℕ) (place x y z : ℕ) : Type 0 where
 
 -- functions within the limits; the first is main
 pub record FunctionsFit (bs : List ℕ) (fs : List Function) : Type 0 where
-  pub each : All (FunctionFits bs) fs
+  pub each : AllByRecursion (FunctionFits bs) fs
   pub little : code_bytes (map (function_entry_of bs) fs) ≤ 4096
   pub main : (get_or fs 0 no_function_record).arguments ≡ 0
 
@@ -118,15 +118,15 @@ code_size (f ∷ fs) = length f.code + code_size fs
 
 -- functions with their letters: main takes nothing and gives a word
 pub record FunctionsKnown (bs : List ℕ) (fs : List Function) : Type 0 where
-  pub each : All (FunctionFits bs) fs
-  pub lettered : All (FunctionLettered bs) fs
+  pub each : AllByRecursion (FunctionFits bs) fs
+  pub lettered : AllByRecursion (FunctionLettered bs) fs
   pub little : code_size (map (function_of bs) fs) ≤ 4096
   pub takes : (get_or (map (function_of bs) fs) 0 no_function).signature.arguments ≡ []
   pub gives : (get_or (map (function_of bs) fs) 0 no_function).signature.result ≡ Word
 
 pub record NativesKnown (bs : List ℕ) (fs : List Native) : Type 0 where
-  pub each : All NativeFits fs
-  pub lettered : All (NativeLettered bs) fs
+  pub each : AllByRecursion NativeFits fs
+  pub lettered : AllByRecursion (NativeLettered bs) fs
 
 -- a kind that a letter can tell
 abbrev pub KnownKind : Kind → Type 0
@@ -140,12 +140,12 @@ pub record FunctionFormed (g : program.Function) : Type 0 where
   pub few : length g.code ≤ 4096
   pub narrow : g.variables ≤ 32
   pub ordered : length g.signature.arguments ≤ g.variables
-  pub takes : All KnownKind g.signature.arguments
+  pub takes : AllByRecursion KnownKind g.signature.arguments
   pub gives : KnownKind g.signature.result
 
 pub record NativeFormed (g : program.Native) : Type 0 where
   pub few : length g.signature.arguments ≤ 4
-  pub takes : All KnownKind g.signature.arguments
+  pub takes : AllByRecursion KnownKind g.signature.arguments
   pub gives : KnownKind g.signature.result
 
 -- what is known of every package that was read
@@ -157,10 +157,10 @@ pub record Fitting (p : Package) : Type 0 where
   pub few_natives : p.native_count ≤ 32
   pub front : FrontFits p.bytes.now p.integers p.integer_count p.strings p.string_size
   pub functions : FunctionsKnown p.bytes.now (take p.function_count p.functions)
-  pub behind : All (FunctionBehind p.bytes.now) (take p.function_count p.functions)
+  pub behind : AllByRecursion (FunctionBehind p.bytes.now) (take p.function_count p.functions)
   pub natives : NativesKnown p.bytes.now (take p.native_count p.natives)
-  pub formed : All FunctionFormed (program_of p).functions
-  pub natives_formed : All NativeFormed (program_of p).natives
+  pub formed : AllByRecursion FunctionFormed (program_of p).functions
+  pub natives_formed : AllByRecursion NativeFormed (program_of p).natives
   pub code_sum : code_size (program_of p).functions ≡ p.code_size
   pub function_count : length (program_of p).functions ≡ p.function_count
   pub native_count : length (program_of p).natives ≡ p.native_count

@@ -1,6 +1,6 @@
 // The pools of a package: integers, strings, functions, natives.
 ghost use Rattle.std.specs.Prelude.{◌≡◌, ℕ, ◌+◌, ◌-◌, ◌*◌, ◌^◌, ◌<◌, ◌≤◌, map, length, take, IfOk, OnOk};
-ghost use Rattle.std.specs.List.{AllByRecursion as All};
+ghost use Rattle.std.specs.List.{AllByRecursion};
 ghost use Rattle.bytecode.specs.Outcome.{told};
 ghost use Rattle.reader.specs.Fields.{byte as byte_of, four, bytes_from};
 ghost use Rattle.reader.specs.Layout.{integers_at, strings_at, function_at, functions_at, native_at, natives_at, code_bytes};
@@ -100,7 +100,7 @@ pub(crate) fn read_functions(
     ensures met { functions_at bytes.now count offset ≡ told (λ q. record { value = map (function_entry_of bytes.now) (take count list.new); after = q.after }) result }
     ensures room { IfOk result (λ q. q.after ≤ length bytes.now) }
     ensures fit { OnOk result (FunctionsFit bytes.now (take count list.new)) }
-    ensures ends { IfOk result (λ q. All (FunctionEnds q.after) (take count list.new)) }
+    ensures ends { IfOk result (λ q. AllByRecursion (FunctionEnds q.after) (take count list.new)) }
     ensures sum { IfOk result (λ q. code_bytes (map (function_entry_of bytes.now) (take count list.new)) ≡ q.code_size) }
 {
     let mut after = offset;
@@ -143,7 +143,7 @@ pub(crate) fn read_natives(
     requires few { count ≤ 32 }
     ensures met { natives_at bytes.now count offset ≡ told (λ q. record { value = map native_entry_of (take count list.new); after = q }) result }
     ensures room { IfOk result (λ q. q ≤ length bytes.now) }
-    ensures fit { OnOk result (All NativeFits (take count list.new)) }
+    ensures fit { OnOk result (AllByRecursion NativeFits (take count list.new)) }
 {
     let mut after = offset;
     for i in 0..count {

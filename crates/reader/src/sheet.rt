@@ -1,6 +1,6 @@
 // The sheet of a package: a record of kinds for each function and each native.
 ghost use Rattle.std.specs.Prelude.{◌≡◌, ◌+◌, ◌<◌, ◌≤◌, true, false, map, length, take, IfOk, OnOk, slice_index_or};
-ghost use Rattle.std.specs.List.{AllByRecursion as All};
+ghost use Rattle.std.specs.List.{AllByRecursion};
 ghost use Rattle.bytecode.specs.Outcome.{told};
 ghost use Rattle.bytecode.specs.declared.kind.Kind.TheVariants.{Word};
 ghost use Rattle.reader.specs.Fields.{byte as byte_of};
@@ -79,14 +79,14 @@ pub(crate) fn read_function_sheet(
 ) -> Result<usize, Refusal>
     requires inside { offset ≤ length bytes.now }
     requires few { count ≤ 64 }
-    requires fit { All (FunctionFits bytes.now) (take count list.old) }
-    requires behind { All (FunctionBehind bytes.now) (take count list.old) }
+    requires fit { AllByRecursion (FunctionFits bytes.now) (take count list.old) }
+    requires behind { AllByRecursion (FunctionBehind bytes.now) (take count list.old) }
     ensures met { function_sheet_at bytes.now count (map function_arguments (map (function_entry_of bytes.now) (take count list.old))) offset ≡ told (λ q. record { value = map (function_signature_of bytes.now) (take count list.new); after = q }) result }
     ensures room { IfOk result (λ q. q ≤ length bytes.now) }
     ensures kept { map (function_entry_of bytes.now) (take count list.new) ≡ map (function_entry_of bytes.now) (take count list.old) }
-    ensures fit { All (FunctionFits bytes.now) (take count list.new) }
-    ensures behind { All (FunctionBehind bytes.now) (take count list.new) }
-    ensures lettered { OnOk result (All (FunctionLettered bytes.now) (take count list.new)) }
+    ensures fit { AllByRecursion (FunctionFits bytes.now) (take count list.new) }
+    ensures behind { AllByRecursion (FunctionBehind bytes.now) (take count list.new) }
+    ensures lettered { OnOk result (AllByRecursion (FunctionLettered bytes.now) (take count list.new)) }
     ensures gives { OnOk result ((0 < count → kind_of (byte_of bytes.now (slice_index_or list.new 0 no_function_record).kinds) ≡ Word)) }
 {
     let mut after = offset;
@@ -109,12 +109,12 @@ pub(crate) fn read_native_sheet(
 ) -> Result<usize, Refusal>
     requires inside { offset ≤ length bytes.now }
     requires few { count ≤ 32 }
-    requires fit { All NativeFits (take count list.old) }
+    requires fit { AllByRecursion NativeFits (take count list.old) }
     ensures met { native_sheet_at bytes.now count (map native_arguments (map native_entry_of (take count list.old))) offset ≡ told (λ q. record { value = map (native_signature_of bytes.now) (take count list.new); after = q }) result }
     ensures room { IfOk result (λ q. q ≤ length bytes.now) }
     ensures kept { map native_entry_of (take count list.new) ≡ map native_entry_of (take count list.old) }
-    ensures fit { All NativeFits (take count list.new) }
-    ensures lettered { OnOk result (All (NativeLettered bytes.now) (take count list.new)) }
+    ensures fit { AllByRecursion NativeFits (take count list.new) }
+    ensures lettered { OnOk result (AllByRecursion (NativeLettered bytes.now) (take count list.new)) }
 {
     let mut after = offset;
     for i in 0..count {
@@ -140,13 +140,13 @@ pub(crate) fn read_sheet(
     requires some { 0 < function_count }
     requires few_functions { function_count ≤ 64 }
     requires few_natives { native_count ≤ 32 }
-    requires functionsFit { FunctionsFit bytes.now (take function_count functions.old) }
-    requires behind { All (FunctionBehind bytes.now) (take function_count functions.old) }
-    requires nativesFit { All NativeFits (take native_count natives.old) }
+    requires functions_fit { FunctionsFit bytes.now (take function_count functions.old) }
+    requires behind { AllByRecursion (FunctionBehind bytes.now) (take function_count functions.old) }
+    requires natives_fit { AllByRecursion NativeFits (take native_count natives.old) }
     ensures met { sheet_at bytes.now function_count (map (function_entry_of bytes.now) (take function_count functions.entry.now)) native_count (map native_entry_of (take native_count natives.old)) offset ≡ told (λ _. record { functions = map (function_of bytes.now) (take function_count functions.exit.now); natives = map (native_of bytes.now) (take native_count natives.new) }) result }
-    ensures functionsKnown { OnOk result (FunctionsKnown bytes.now (take function_count functions.new)) }
-    ensures behind { All (FunctionBehind bytes.now) (take function_count functions.new) }
-    ensures nativesKnown { OnOk result (NativesKnown bytes.now (take native_count natives.new)) }
+    ensures functions_known { OnOk result (FunctionsKnown bytes.now (take function_count functions.new)) }
+    ensures behind { AllByRecursion (FunctionBehind bytes.now) (take function_count functions.new) }
+    ensures natives_known { OnOk result (NativesKnown bytes.now (take native_count natives.new)) }
     ensures sum { OnOk result (code_size (map (function_of bytes.now) (take function_count functions.new)) ≡ code_bytes (map (function_entry_of bytes.now) (take function_count functions.old))) }
 {
     let native_sheet = read_function_sheet(bytes, function_count, offset, functions)?;

@@ -1,6 +1,6 @@
 -- A package that was read holds a well_formed program.
 use Rattle.std.proofs.Common.{ℕ, ◌<◌, List, [], ◌∷◌, subst, arith}
-use Rattle.std.specs.List.{AllByRecursion as All}
+use Rattle.std.specs.List.{AllByRecursion}
 use Rattle.std.proofs.ByRecursion.{All-get_or}
 use Rattle.bytecode.specs.declared.kind.Kind.{Kind}
 use Rattle.bytecode.specs.declared.kind.Kind.TheVariants.{Unknown, Word, Reference}
@@ -15,7 +15,7 @@ known Unknown h = absurd h
 known Word h = tt
 known Reference h = tt
 
-all_known : (ks : List Kind) → All KnownKind ks → AllKnown ks
+all_known : (ks : List Kind) → AllByRecursion KnownKind ks → AllKnown ks
 all_known [] h = tt
 all_known (k ∷ ks) h = (known k h.0, all_known ks h.1)
 

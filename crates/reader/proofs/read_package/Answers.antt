@@ -10,9 +10,9 @@ read_sheet-requires c =
       some = omega arith;
       few_functions = omega arith;
       few_natives = omega arith;
-      functionsFit = c.in_ok-pool.ensures.fit;
+      functions_fit = c.in_ok-pool.ensures.fit;
       behind = ends_behind c.args.bytes.now _ _ c.in_ok-native_count.ensures.room c.in_ok-pool.ensures.ends;
-      nativesFit = c.in_ok-sheet.ensures.fit;
+      natives_fit = c.in_ok-sheet.ensures.fit;
     }
 
 pub returns : goal.returns
@@ -22,7 +22,7 @@ returns c =
       lent = search rules;
       fitting =
           fitting_from _ (omega arith) (omega arith) (omega arith) (omega arith) (omega arith)
-          c.in_ok-front.ensures.fits c.in_ok-read_sheet.ensures.functionsKnown c.in_ok-read_sheet.ensures.nativesKnown
+          c.in_ok-front.ensures.fits c.in_ok-read_sheet.ensures.functions_known c.in_ok-read_sheet.ensures.natives_known
           c.in_ok-read_sheet.ensures.behind
           (c.in_ok-read_sheet.ensures.sum ∙ c.in_ok-pool.ensures.sum);
     }

@@ -1,6 +1,6 @@
 use Rattle.std.proofs.Common.{◌≡◌, map, take, ap, ◌∙◌, subst, arith, length-set}
 use Rattle.std.proofs.lemmas.Result.{err_from_is_err_and}
-use Rattle.std.specs.List.{AllByRecursion as All}
+use Rattle.std.specs.List.{AllByRecursion}
 use Rattle.reader.specs.Layout.{function_at, code_bytes}
 use Rattle.reader.specs.View.{function_entry_of, FunctionEnds, FunctionsFit}
 use Rattle.reader.proofs.Repeating.{series_more, series_fault, series_end}
@@ -46,6 +46,6 @@ returns c =
           (ap (λ n. map (function_entry_of c.args.bytes.now) (take n c.loop-i.list)) e);
       room = c.loop-i.invariant.1;
       fit = subst (λ n. FunctionsFit c.args.bytes.now (take n c.loop-i.list)) e c.loop-i.invariant.2;
-      ends = subst (λ n. All (FunctionEnds c.loop-i.after) (take n c.loop-i.list)) e c.loop-i.invariant.5;
+      ends = subst (λ n. AllByRecursion (FunctionEnds c.loop-i.after) (take n c.loop-i.list)) e c.loop-i.invariant.5;
       sum = subst (λ n. code_bytes (map (function_entry_of c.args.bytes.now) (take n c.loop-i.list)) ≡ c.loop-i.code_size) e c.loop-i.invariant.3;
     }

@@ -1,5 +1,5 @@
 use Rattle.std.proofs.Common.{◌≡◌, map, take, ap, ◌∙◌, subst, arith, length-set}
-use Rattle.std.specs.List.{AllByRecursion as All}
+use Rattle.std.specs.List.{AllByRecursion}
 use Rattle.std.proofs.lemmas.Result.{err_from_is_err_and}
 use Rattle.reader.specs.Layout.{native_at}
 use Rattle.reader.specs.View.{native_entry_of, NativeFits}
@@ -38,5 +38,5 @@ returns c =
           series_end (λ i s. native_at c.args.bytes.now s.after) c.args.count c.loop-i.i _ _ _ c.loop-i-test.false
           (ap (λ n. map native_entry_of (take n c.loop-i.list)) e);
       room = c.loop-i.invariant.1;
-      fit = subst (λ n. All NativeFits (take n c.loop-i.list)) e c.loop-i.invariant.2;
+      fit = subst (λ n. AllByRecursion NativeFits (take n c.loop-i.list)) e c.loop-i.invariant.2;
     }

@@ -1,5 +1,5 @@
 use Rattle.std.proofs.Common.{◌≡◌, ℕ, ◌<◌, ◌≤◌, eqb, List, map, length, get_or, take, sym, refl, ap, ◌∙◌, subst, arith, length-set, eq-eqb}
-use Rattle.std.specs.List.{AllByRecursion as All}
+use Rattle.std.specs.List.{AllByRecursion}
 use Rattle.std.proofs.lemmas.Result.{err_from_is_err_and}
 use Rattle.bytecode.specs.Outcome.{Out}
 use Rattle.bytecode.specs.Program.{Signature}
@@ -76,6 +76,6 @@ returns c =
       kept = c.loop-i.invariant.2;
       fit = c.loop-i.invariant.3;
       behind = c.loop-i.invariant.7;
-      lettered = subst (λ n. All (FunctionLettered c.args.bytes.now) (take n c.loop-i.list)) e c.loop-i.invariant.4;
+      lettered = subst (λ n. AllByRecursion (FunctionLettered c.args.bytes.now) (take n c.loop-i.list)) e c.loop-i.invariant.4;
       gives = λ z. c.loop-i.invariant.5 (omega arith);
     }

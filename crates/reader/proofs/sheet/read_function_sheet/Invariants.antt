@@ -1,5 +1,5 @@
 use Rattle.std.proofs.Common.{◌≡◌, ◌<◌, ◌≤◌, eqb, map, length, get_or, take}
-use Rattle.std.specs.List.{AllByRecursion as All}
+use Rattle.std.specs.List.{AllByRecursion}
 use Rattle.bytecode.specs.declared.kind.Kind.TheVariants.{Word}
 use Rattle.reader.specs.Fields.{byte}
 use Rattle.reader.specs.Layout.{record_at, function_sheet_at, function_arguments, kind_of}
@@ -14,8 +14,8 @@ invariant-loop-i l =
     l.count l.i (map (function_signature_of l.bytes) (take l.i l.list)) l.after) ×
     (l.after ≤ length l.bytes) ×
     (map (function_entry_of l.bytes) (take l.count l.list) ≡ map (function_entry_of l.bytes) (take l.count l.initial.list)) ×
-    All (FunctionFits l.bytes) (take l.count l.list) ×
-    All (FunctionLettered l.bytes) (take l.i l.list) ×
+    AllByRecursion (FunctionFits l.bytes) (take l.count l.list) ×
+    AllByRecursion (FunctionLettered l.bytes) (take l.i l.list) ×
     (0 < l.i → kind_of (byte l.bytes (get_or l.list 0 no_function_record).kinds) ≡ Word) ×
     (length l.list ≡ 64) ×
-    All (FunctionBehind l.bytes) (take l.count l.list)
+    AllByRecursion (FunctionBehind l.bytes) (take l.count l.list)

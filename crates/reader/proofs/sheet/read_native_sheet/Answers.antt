@@ -1,5 +1,5 @@
 use Rattle.std.proofs.Common.{◌≡◌, ℕ, ◌<◌, ◌≤◌, false, List, map, length, get_or, take, sym, refl, ap, ◌∙◌, subst, arith, length-set}
-use Rattle.std.specs.List.{AllByRecursion as All}
+use Rattle.std.specs.List.{AllByRecursion}
 use Rattle.std.proofs.lemmas.Result.{err_from_is_err_and}
 use Rattle.bytecode.specs.Outcome.{Out}
 use Rattle.bytecode.specs.Program.{Signature}
@@ -65,5 +65,5 @@ returns c =
       room = c.loop-i.invariant.1;
       kept = c.loop-i.invariant.2;
       fit = c.loop-i.invariant.3;
-      lettered = subst (λ n. All (NativeLettered c.args.bytes.now) (take n c.loop-i.list)) e c.loop-i.invariant.4;
+      lettered = subst (λ n. AllByRecursion (NativeLettered c.args.bytes.now) (take n c.loop-i.list)) e c.loop-i.invariant.4;
     }

@@ -1,5 +1,5 @@
 use Rattle.std.proofs.Common.{◌≡◌, ◌≤◌, false, map, length, get_or, take}
-use Rattle.std.specs.List.{AllByRecursion as All}
+use Rattle.std.specs.List.{AllByRecursion}
 use Rattle.reader.specs.Layout.{record_at, native_sheet_at, native_arguments}
 use Rattle.reader.specs.View.{native_entry_of, native_signature_of, NativeFits, NativeLettered}
 use Rattle.reader.proofs.Repeating.{onwards}
@@ -12,6 +12,6 @@ invariant-loop-i l =
     l.count l.i (map (native_signature_of l.bytes) (take l.i l.list)) l.after) ×
     (l.after ≤ length l.bytes) ×
     (map native_entry_of (take l.count l.list) ≡ map native_entry_of (take l.count l.initial.list)) ×
-    All NativeFits (take l.count l.list) ×
-    All (NativeLettered l.bytes) (take l.i l.list) ×
+    AllByRecursion NativeFits (take l.count l.list) ×
+    AllByRecursion (NativeLettered l.bytes) (take l.i l.list) ×
     (length l.list ≡ 32)
