@@ -1,5 +1,5 @@
 // Instructions and their bytes. Opcodes stand here and nowhere else.
-ghost use Rattle.std.specs.Prelude.{◌≡◌, ℕ, ◌+◌, ◌^◌, ◌<◌, ◌≤◌, length, MatchOption};
+ghost use Rattle.std.specs.Prelude.{◌≡◌, ◌+◌, ◌^◌, ◌<◌, ◌≤◌, length};
 ghost use Rattle.bytecode.specs.Instructions.{instruction_of, size_of, decode_at, byte_at, target as target_of};
 
 /// Two words to one.

@@ -26,7 +26,7 @@ impl<'a> Memory<'a> {
     /// A memory without blocks.
     pub fn over(cells: &'a mut [Cell], records: &'a mut [BlockRecord]) -> Memory<'a>
         requires { (length cells.old < 2 ^ 28) × (length records.old < 2 ^ 31) }
-        ensures value { storage_of result ≡ record { cells = cells.entry.now; used = 0; records = records.old; count = 0 } }
+        ensures value { storage_of result ≡ record { cells = cells.old; used = 0; records = records.old; count = 0 } }
         ensures sound { Sound (storage_of result) }
     {
         Memory {

@@ -1,5 +1,5 @@
 // Instructions on blocks.
-ghost use Rattle.std.specs.Prelude.{◌≡◌, ℕ, ◌-◌, ◌<◌, ◌≤◌, length};
+ghost use Rattle.std.specs.Prelude.{◌≡◌, ◌-◌, ◌<◌, ◌≤◌, length};
 ghost use Rattle.heap.specs.Storage.{Known, new_single, new_array, array_length, add_index, add_field, load_word, load_byte, load_reference, store_word, store_byte, store_reference};
 ghost use Rattle.cells.specs.View.{attempt_of};
 ghost use Rattle.runtime.specs.Runtime.{slot as slot_in, word_in, moved, pushed, with_storage, tried, went};

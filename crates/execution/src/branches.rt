@@ -1,5 +1,5 @@
 // Comparisons and branches.
-ghost use Rattle.std.specs.Prelude.{◌≡◌, ℕ, ◌-◌, ◌≤◌, not, ◌==◌};
+ghost use Rattle.std.specs.Prelude.{◌≡◌, ◌-◌, ◌≤◌, not, ◌==◌};
 ghost use Rattle.bytecode.specs.Instructions.{target as target_of};
 ghost use Rattle.word.specs.Words.{holds as compared};
 ghost use Rattle.runtime.specs.Runtime.{slot as slot_in, word_in, branched, jumped};

@@ -1,5 +1,5 @@
 // Calls and returns of functions.
-ghost use Rattle.std.specs.Prelude.{◌≡◌, ℕ, ◌+◌, ◌-◌, ◌^◌, ◌<◌, ◌≤◌, length, Some};
+ghost use Rattle.std.specs.Prelude.{◌≡◌, ◌+◌, ◌-◌, ◌^◌, ◌<◌, ◌≤◌, length, Some};
 ghost use Rattle.bytecode.specs.Program.{Function as Called};
 ghost use Rattle.runtime.specs.Runtime.{slot as slot_in, called, returned};
 ghost use Rattle.bytecode.specs.declared.instruction.Instruction.TheVariants.{Return};

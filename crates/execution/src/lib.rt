@@ -1,7 +1,7 @@
 // A program's execution over lent memory: its frames, their slots and the blocks; and every instruction but the call of a native.
 #![tactic(auto)]
 
-ghost use Rattle.std.specs.Prelude.{◌≡◌, ℕ, ◌+◌, ◌-◌, ◌^◌, ◌<◌, ◌≤◌, length, take, drop};
+ghost use Rattle.std.specs.Prelude.{◌≡◌, ◌+◌, ◌-◌, ◌^◌, ◌<◌, ◌≤◌, length, take, drop};
 ghost use Rattle.execution.specs.View.{state_of, beginning};
 
 mod blocks;

@@ -1,5 +1,5 @@
 // What can be seen of an execution. Nothing changes.
-ghost use Rattle.std.specs.Prelude.{◌≡◌, ℕ, ◌+◌, ◌<◌, ◌≤◌, length};
+ghost use Rattle.std.specs.Prelude.{◌≡◌, ◌+◌, ◌<◌, ◌≤◌, length};
 ghost use Rattle.std.specs.Option.{option_map};
 ghost use Rattle.plan.specs.Programs.{variables_at};
 ghost use Rattle.reader.specs.View.{program_of, Fitting};

@@ -1,5 +1,5 @@
 // Instructions on the operand stack and the variables.
-ghost use Rattle.std.specs.Prelude.{◌≡◌, ℕ, ◌+◌, ◌-◌, ◌%◌, ◌^◌, ◌<◌, ◌≤◌, length};
+ghost use Rattle.std.specs.Prelude.{◌≡◌, ◌+◌, ◌-◌, ◌%◌, ◌^◌, ◌<◌, ◌≤◌, length};
 ghost use Rattle.word.specs.Words.{compute as computed};
 ghost use Rattle.runtime.specs.Runtime.{slot as slot_in, word_in, moved, pushed, assigned, swapped, tried, went};
 ghost use Rattle.ready.specs.Ready.{Bounds, Room};

@@ -1,7 +1,7 @@
 // Hosts: what answers the natives of a program, and two of them.
 #![tactic(auto)]
 
-ghost use Rattle.std.specs.Prelude.{◌≡◌, ℕ};
+ghost use Rattle.std.specs.Prelude.{◌≡◌};
 ghost use Rattle.std.specs.Option.{option_map};
 ghost use Rattle.host.specs.Hosts.{Host as Make, Lawful};
 ghost use Rattle.host.specs.View.{call_of, signature_of};

@@ -47,7 +47,7 @@ fn pick(first: Text<'_>, second: Text<'_>) -> Reply
 impl<'a> Line<'a> {
     /// Nothing is written yet.
     pub fn new(room: &'a mut [u8]) -> Line<'a>
-        ensures { line_of result ≡ record { room = length room.entry.now; written = [] } }
+        ensures { line_of result ≡ record { room = length room.old; written = [] } }
     {
         Line { room, len: 0 }
     }

@@ -1,5 +1,5 @@
 // What a package holds, line by line: pools, functions with their instructions, natives, and the kinds of the sheet.
-ghost use Rattle.std.specs.Prelude.{◌<◌, length};
+ghost use Rattle.std.specs.Prelude.{◌<◌};
 ghost use Rattle.reader.specs.View.{Fitting};
 
 use crate::dump;

@@ -1,7 +1,7 @@
 // What an accepted program is owed: what check promises of it is what the law of the machine asks for.
 #![tactic(auto)]
 
-ghost use Rattle.std.specs.Prelude.{◌≡◌, ℕ, ◌<◌, length};
+ghost use Rattle.std.specs.Prelude.{ℕ, ◌<◌, length};
 ghost use Rattle.plan.specs.Plans.{Fullest};
 ghost use Rattle.checked.specs.Law.{Plans};
 ghost use Rattle.runtime.specs.Law.{Memory, Enough, Law};

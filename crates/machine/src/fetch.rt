@@ -1,5 +1,5 @@
 // Where an instruction is fetched.
-ghost use Rattle.std.specs.Prelude.{◌≡◌, ℕ, ◌<◌, true, length, is_some, Some};
+ghost use Rattle.std.specs.Prelude.{◌≡◌, ◌<◌, true, length, is_some, Some};
 ghost use Rattle.bytecode.specs.Instructions.{decode_at};
 ghost use Rattle.plan.specs.Programs.{function_at};
 ghost use Rattle.reader.specs.View.{program_of, Fitting};

@@ -1,5 +1,5 @@
 // The question of sizes, which comes before a start.
-ghost use Rattle.std.specs.Prelude.{◌≡◌, ℕ, if◌then◌else◌, Some, None};
+ghost use Rattle.std.specs.Prelude.{◌≡◌, if◌then◌else◌, Some, None};
 ghost use Rattle.verifier.specs.Checking.{Checked, meaning_of};
 ghost use Rattle.machine.specs.View.{sizes_fault, fault_in};
 ghost use Rattle.machine.specs.Sizes.{sizes_allowed};

@@ -1,5 +1,5 @@
 // One step: the next instruction, with a host that answers natives.
-ghost use Rattle.std.specs.Prelude.{◌≡◌, ℕ};
+ghost use Rattle.std.specs.Prelude.{◌≡◌};
 ghost use Rattle.bytecode.specs.declared.instruction.Instruction.TheVariants.{Invokenative};
 ghost use Rattle.plan.specs.Programs.{nth};
 ghost use Rattle.reader.specs.View.{program_of, Fitting};

@@ -1,7 +1,7 @@
 // Calls of natives: whether the host's signature is the sheet's, what the host is told, and its reply.
 #![tactic(auto)]
 
-ghost use Rattle.std.specs.Prelude.{◌≡◌, ℕ, ◌%◌, ◌^◌, ◌<◌, ◌≤◌, length, take};
+ghost use Rattle.std.specs.Prelude.{◌≡◌, ◌%◌, ◌<◌, ◌≤◌, length, take};
 ghost use Rattle.std.specs.Option.{option_map};
 ghost use Rattle.plan.specs.Programs.{nth};
 ghost use Rattle.reader.specs.View.{program_of, native_in, Fitting};

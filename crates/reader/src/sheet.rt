@@ -143,7 +143,7 @@ pub(crate) fn read_sheet(
     requires functions_fit { FunctionsFit bytes.now (take function_count functions.old) }
     requires behind { AllByRecursion (FunctionBehind bytes.now) (take function_count functions.old) }
     requires natives_fit { AllByRecursion NativeFits (take native_count natives.old) }
-    ensures met { sheet_at bytes.now function_count (map (function_entry_of bytes.now) (take function_count functions.entry.now)) native_count (map native_entry_of (take native_count natives.old)) offset ≡ told (λ _. record { functions = map (function_of bytes.now) (take function_count functions.exit.now); natives = map (native_of bytes.now) (take native_count natives.new) }) result }
+    ensures met { sheet_at bytes.now function_count (map (function_entry_of bytes.now) (take function_count functions.old)) native_count (map native_entry_of (take native_count natives.old)) offset ≡ told (λ _. record { functions = map (function_of bytes.now) (take function_count functions.new); natives = map (native_of bytes.now) (take native_count natives.new) }) result }
     ensures functions_known { OnOk result (FunctionsKnown bytes.now (take function_count functions.new)) }
     ensures behind { AllByRecursion (FunctionBehind bytes.now) (take function_count functions.new) }
     ensures natives_known { OnOk result (NativesKnown bytes.now (take native_count natives.new)) }

@@ -208,9 +208,9 @@ module _ (f p : ℕ) where
 -- ## Acts that ask nothing of the variables
 
 module _ (f p V : ℕ) (s : Shape) (a : StackAct) where
-  pub as_fixed : (taken : Kinds) (left : Option Kind) → a ≡ Fixed taken left → perform f p V (act_in a) s ≡ perform f p 0 (fixed (kinds_of taken) (one_or_none left)) s
+  pub as_fixed : (given : Kinds) (left : Option Kind) → a ≡ Fixed given left → perform f p V (act_in a) s ≡ perform f p 0 (fixed (kinds_of given) (one_or_none left)) s
   unfolding perform
-  as_fixed taken left e = ap (λ b. perform f p V (act_in b) s) e
+  as_fixed given left e = ap (λ b. perform f p V (act_in b) s) e
 
   pub as_pop : a ≡ Pop → perform f p V (act_in a) s ≡ perform f p 0 pop s
   unfolding perform

@@ -1,5 +1,5 @@
 // Hex text as a source: two adjacent hex digits are a byte, and blanks and comments stand between bytes.
-ghost use Rattle.std.specs.Prelude.{◌≡◌, ℕ, ◌+◌, ◌^◌, ◌<◌, ◌≤◌, length, drop, slice_index};
+ghost use Rattle.std.specs.Prelude.{◌≡◌, ◌+◌, ◌^◌, ◌<◌, ◌≤◌, length, drop, slice_index};
 ghost use Rattle.source.specs.Rest.{next_of};
 ghost use Rattle.source.specs.Hex.{digit_of, blank, advanced, between, right, hex_text};
 ghost use Rattle.source.specs.Numbers.{text_shown};

@@ -1,5 +1,5 @@
 // What a stack can be asked. Nothing changes.
-ghost use Rattle.std.specs.Prelude.{◌≡◌, ℕ, ◌-◌, ◌<◌, ◌≤◌, slice_index_or, slice_range};
+ghost use Rattle.std.specs.Prelude.{◌≡◌, ◌-◌, ◌<◌, ◌≤◌, slice_index_or, slice_range};
 ghost use Rattle.std.specs.List.{slice_get};
 ghost use Rattle.stack.specs.Stacks.{entries, limit, stored, held, Sound};
 

@@ -1,5 +1,5 @@
 // Changes that are tested first, and refused where there is no room or no such entry.
-ghost use Rattle.std.specs.Prelude.{◌≡◌, ℕ, ◌+◌, ◌-◌, min, ltb, drop, is_ok, if◌then◌else◌, nat_lt, slice_set};
+ghost use Rattle.std.specs.Prelude.{◌≡◌, ◌+◌, ◌-◌, min, drop, is_ok, if◌then◌else◌, nat_lt, slice_set};
 ghost use Rattle.std.specs.List.{slice_get};
 ghost use Rattle.stack.specs.Stacks.{entries, limit, stored, held, pushed, older, Sound};
 
@@ -10,7 +10,7 @@ impl<'a, T: Copy> Stack<'a, T> {
     pub fn push(&mut self, x: T) -> Result<(), Full>
         ensures answer { is_ok result ≡ nat_lt self.old.len (limit self.old) }
         ensures entries { entries self.new ≡ slice_set (entries self.old) self.old.len x }
-        ensures len { self.new.len ≡ (if ltb self.old.len (limit self.old) then self.old.len + 1 else self.old.len) }
+        ensures len { self.new.len ≡ (if nat_lt self.old.len (limit self.old) then self.old.len + 1 else self.old.len) }
         ensures held { held self.new ≡ pushed (limit self.old) (held self.old) x }
     {
         if self.len < self.room.len() {
@@ -42,7 +42,7 @@ impl<'a, T: Copy> Stack<'a, T> {
     pub fn set(&mut self, i: usize, x: T) -> Result<(), NoEntry>
         requires sound { Sound self.old }
         ensures answer { is_ok result ≡ nat_lt i self.old.len }
-        ensures entries { entries self.new ≡ (if ltb i self.old.len then slice_set (entries self.old) i x else entries self.old) }
+        ensures entries { entries self.new ≡ (if nat_lt i self.old.len then slice_set (entries self.old) i x else entries self.old) }
         ensures len { self.new.len ≡ self.old.len }
         ensures stored { stored self.new ≡ slice_set (stored self.old) i x }
     {

@@ -1,5 +1,5 @@
 // Changes that test nothing: the caller shows that the room or the entry is there.
-ghost use Rattle.std.specs.Prelude.{◌≡◌, ℕ, ◌+◌, ◌-◌, ◌<◌, ◌≤◌, slice_index_or, slice_set};
+ghost use Rattle.std.specs.Prelude.{◌≡◌, ◌+◌, ◌-◌, ◌<◌, ◌≤◌, slice_index_or, slice_set};
 ghost use Rattle.stack.specs.Stacks.{entries, limit, Sound};
 
 use crate::Stack;

@@ -1,5 +1,5 @@
 // What each instruction does to the stack, by the pools and the sheet of its package.
-ghost use Rattle.std.specs.Prelude.{◌≡◌, ◌-◌, ◌<◌, [], ◌∷◌, reverse, Some};
+ghost use Rattle.std.specs.Prelude.{◌≡◌, ◌<◌, [], ◌∷◌, reverse, Some};
 ghost use Rattle.bytecode.specs.Outcome.{told};
 ghost use Rattle.plan.specs.Programs.{nth, function_at};
 ghost use Rattle.plan.specs.Plans.{entry_of};

@@ -1,5 +1,5 @@
 // The marked places of a function's part of the table.
-ghost use Rattle.std.specs.Prelude.{◌≡◌, ◌+◌, ◌<◌, ◌≤◌, map, length, IfOk};
+ghost use Rattle.std.specs.Prelude.{◌≡◌, ◌+◌, ◌<◌, ◌≤◌, map, IfOk};
 ghost use Rattle.bytecode.specs.Outcome.{told};
 ghost use Rattle.plan.specs.Plans.{successors};
 ghost use Rattle.plan.specs.Sweep.{lowest as lowest_of, put as put_of, spread as spread_of};

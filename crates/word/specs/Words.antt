@@ -24,7 +24,7 @@ wrap (negsuc n) = (2 ^ 32 - 1) - n % 2 ^ 32
 abbrev pub undivided : ℕ → ℕ → Bool
 undivided x y = cond (y == 0) true (cond (x == 2 ^ 31) (y == 2 ^ 32 - 1) false)
 
--- x is the word that was pushed first, y the one on top. quotZ drops the fraction, remZ has the sign of the dividend, and
+-- x is the word that was pushed first, y the one on top. int_div drops the fraction, int_rem has the sign of the dividend, and
 -- shr_z rounds down, so that it keeps the sign. A shift uses the low five bits of its count; a left shift drops bits above the word.
 abbrev pub compute : Operation → ℕ → ℕ → Attempt ℕ
 compute Add x y = gives (wrap (value_of x +ℤ value_of y))
