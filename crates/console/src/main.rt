@@ -16,6 +16,7 @@ use shapes::table::blank_record;
 use source::hex::HexText;
 use source::loader::{LIMIT, load};
 use std::io::Read;
+use std::process::ExitCode;
 use std::{env, io};
 use verifier::program::{Program, check};
 
@@ -98,21 +99,27 @@ fn start(rt: &HostRuntime, program: Program<'_>, asked: &Asked) -> io::Result<()
     }
 }
 
-fn main(rt: HostRuntime) -> io::Result<()> {
-    let Some(asked) = read_arguments(rt.alloc(), env::args(&rt)?) else {
-        eprintln!(rt; "{USAGE}")?;
-        return Err(io::Error::from(io::ErrorKind::InvalidInput));
-    };
+// Loads and checks the text on standard input, and starts what is accepted.
+fn load_and_start(rt: &HostRuntime, asked: &Asked) -> io::Result<()> {
     let mut text = Vec::new(rt.alloc());
     rt.stdin().read_to_end(&mut text)?;
     let mut buffer = vec![in rt.alloc(); 0u8; LIMIT]?;
     match load(&mut HexText::new(&text), &mut buffer) {
         Ok(count) => buffer.truncate(count),
-        Err(fault) => return refused(&rt, fault.shown()),
+        Err(fault) => return refused(rt, fault.shown()),
     }
     let mut table = vec![in rt.alloc(); blank_record(); RECORDS]?;
     match check(&buffer, &mut table) {
-        Ok(accepted) => start(&rt, accepted.program, &asked),
-        Err(refusal) => refused(&rt, refusal.shown()),
+        Ok(accepted) => start(rt, accepted.program, asked),
+        Err(refusal) => refused(rt, refusal.shown()),
     }
+}
+
+fn main(rt: HostRuntime) -> io::Result<ExitCode> {
+    let Some(asked) = read_arguments(rt.alloc(), env::args(&rt)?) else {
+        eprintln!(rt; "{USAGE}")?;
+        return Ok(ExitCode::FAILURE);
+    };
+    load_and_start(&rt, &asked)?;
+    Ok(ExitCode::SUCCESS)
 }
