@@ -3,6 +3,7 @@
 
 ghost use Rattle.std.specs.Prelude.{◌^◌, ◌<◌, length};
 
+use cells::content::Word;
 use cells::memory::Memory;
 use heap::{BlockRecord, Cell};
 use stack::Stack;
@@ -15,6 +16,7 @@ const TURNS: u32 = 10_000_000;
 fn push_and_pop(room: &mut [u64], turns: u32) -> u64 {
     let mut entries = Stack::new(room);
     let mut sum = 1u64;
+    // The number of a turn is what it pushes.
     for i in 0..turns {
         let _ = entries.push(i as u64);
         let _ = entries.push(sum);
@@ -35,10 +37,11 @@ fn store_and_load(cells: &mut [Cell], records: &mut [BlockRecord], turns: u32) -
         return 0;
     };
     let mut sum = 1u32;
+    // The number of a turn says where it stores, and what.
     for i in 0..turns {
         if let Ok(word) = memory.add_index(array, i % 100) {
-            let _ = memory.store_word(word, sum ^ i);
-            sum = memory.load_word(word).unwrap_or(0).wrapping_mul(3);
+            let _ = memory.store::<Word>(word, sum ^ i);
+            sum = memory.load::<Word>(word).unwrap_or(0).wrapping_mul(3);
         }
     }
     sum
@@ -50,17 +53,8 @@ fn measure(rt: &HostRuntime) -> io::Result<()> {
     let sum = push_and_pop(&mut room, TURNS);
     let nanos = start.elapsed(rt)?.as_nanos() / TURNS as u128;
     println!(rt; "two pushes and two pops: {nanos} ns ({sum})")?;
-    let mut cells = [Cell {
-        bytes: [0; 8],
-        mark: false,
-    }; 64];
-    let mut records = [BlockRecord {
-        start: 0,
-        from: 0,
-        end: 0,
-        count: 0,
-        size: 0,
-    }; 4];
+    let mut cells = [Cell::default(); 64];
+    let mut records = [BlockRecord::default(); 4];
     let start = Instant::now(rt)?;
     let sum = store_and_load(&mut cells, &mut records, TURNS);
     let nanos = start.elapsed(rt)?.as_nanos() / TURNS as u128;
@@ -69,14 +63,11 @@ fn measure(rt: &HostRuntime) -> io::Result<()> {
 
 fn main(rt: HostRuntime) -> io::Result<()> {
     let mut arguments = env::args(&rt)?;
-    let _ = arguments.next();
-    match arguments.next() {
-        Some(word) => {
-            if word.as_str() == "measure" {
-                return measure(&rt);
-            }
-            println!(rt; "usage: bench measure")
-        }
-        None => println!(rt; "usage: bench measure"),
+    if arguments
+        .nth(1)
+        .is_some_and(|word| word.as_str() == "measure")
+    {
+        return measure(&rt);
     }
+    println!(rt; "usage: bench measure")
 }

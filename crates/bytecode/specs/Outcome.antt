@@ -6,6 +6,7 @@ use Rattle.bytecode.specs.declared.refusal.CodeFault.{CodeFault}
 use Rattle.bytecode.specs.declared.refusal.CodeFault.TheVariants.{Opcode, TooFew, TooMany, WrongKind, Variable, PoolIndex, NoStart, StacksDiffer, Return}
 use Rattle.bytecode.specs.declared.refusal.Refusal.{Refusal}
 use Rattle.bytecode.specs.declared.refusal.Refusal.TheVariants.{Field, Table, Code}
+use Rattle.bytecode.specs.declared.refusal.Report.{Report}
 
 abbrev pub Fault : Type 0
 Fault = ℕ × ℕ × ℕ
@@ -52,6 +53,10 @@ abbrev pub shown : Refusal → Fault
 shown (Field fault offset) = (field_number fault, 0, offset)
 shown Table = (16, 0, 0)
 shown (Code fault function place) = (code_number fault, function, place)
+
+-- a fault as programs print it
+abbrev pub report : Fault → Report
+report (number, first, second) = record { number = number; first = first; second = second }
 
 -- what a call's answer says, by what its value stands for
 abbrev pub told : {A B : Type 0} → (A → B) → Result A Refusal → Out B

@@ -2,8 +2,10 @@
 ghost use Rattle.std.specs.Prelude.{◌≡◌, ◌+◌, ◌^◌, ◌<◌, ◌≤◌, length};
 ghost use Rattle.bytecode.specs.Instructions.{instruction_of, size_of, decode_at, byte_at, target as target_of};
 
+use std::fmt;
+
 /// Two words to one.
-#[derive(Clone, Copy)]
+#[derive(Clone, Copy, Debug, PartialEq, Eq)]
 pub enum Operation {
     Add,
     Sub,
@@ -18,7 +20,7 @@ pub enum Operation {
 }
 
 /// How two words are compared, as signed numbers.
-#[derive(Clone, Copy)]
+#[derive(Clone, Copy, Debug, PartialEq, Eq)]
 pub enum Order {
     Less,
     GreaterOrEqual,
@@ -27,7 +29,7 @@ pub enum Order {
 }
 
 /// An instruction with its operands. A branch has its offset from its own place.
-#[derive(Clone, Copy)]
+#[derive(Clone, Copy, Debug, PartialEq, Eq)]
 pub enum Instruction {
     Nop,
     Pop,
@@ -64,7 +66,8 @@ pub enum Instruction {
 pub fn instruction_of(op: u8, first: u8, second: u8) -> Option<Instruction>
     ensures { result ≡ instruction_of op first second }
 {
-    let wide = first as u16 * 256 + second as u16;
+    let wide = u16::from_be_bytes([first, second]);
+    let offset = i16::from_be_bytes([first, second]);
     let found = match op {
         0x00 => Instruction::Nop,
         0x01 => Instruction::AconstNull,
@@ -94,13 +97,13 @@ pub fn instruction_of(op: u8, first: u8, second: u8) -> Option<Instruction>
         0x7E => Instruction::Binary(Operation::And),
         0x80 => Instruction::Binary(Operation::Or),
         0x82 => Instruction::Binary(Operation::Xor),
-        0x9F => Instruction::IfCmpeq(wide.cast_signed()),
-        0xA0 => Instruction::IfCmpne(wide.cast_signed()),
-        0xA1 => Instruction::IfIcmp(Order::Less, wide.cast_signed()),
-        0xA2 => Instruction::IfIcmp(Order::GreaterOrEqual, wide.cast_signed()),
-        0xA3 => Instruction::IfIcmp(Order::Greater, wide.cast_signed()),
-        0xA4 => Instruction::IfIcmp(Order::LessOrEqual, wide.cast_signed()),
-        0xA7 => Instruction::Goto(wide.cast_signed()),
+        0x9F => Instruction::IfCmpeq(offset),
+        0xA0 => Instruction::IfCmpne(offset),
+        0xA1 => Instruction::IfIcmp(Order::Less, offset),
+        0xA2 => Instruction::IfIcmp(Order::GreaterOrEqual, offset),
+        0xA3 => Instruction::IfIcmp(Order::Greater, offset),
+        0xA4 => Instruction::IfIcmp(Order::LessOrEqual, offset),
+        0xA7 => Instruction::Goto(offset),
         0xB0 => Instruction::Return,
         0xB7 => Instruction::Invokenative(wide),
         0xB8 => Instruction::Invokestatic(wide),
@@ -157,7 +160,7 @@ impl Instruction {
 fn byte_or_zero(code: &[u8], place: usize) -> u8
     ensures { result ≡ byte_at code.now place }
 {
-    if place < code.len() { code[place] } else { 0 }
+    code.get(place).copied().unwrap_or(0)
 }
 
 /// The instruction at a place of a code; none where the opcode is unknown or its operands are cut.
@@ -170,11 +173,7 @@ pub fn decode(code: &[u8], place: usize) -> Option<Instruction>
         byte_or_zero(code, place + 1),
         byte_or_zero(code, place + 2),
     )?;
-    if found.size() <= code.len() - place {
-        Some(found)
-    } else {
-        None
-    }
+    (place + found.size() <= code.len()).then_some(found)
 }
 
 /// Where a branch at a place of a code goes; none where that is before the code.
@@ -183,4 +182,71 @@ pub fn target(place: usize, offset: i16) -> Option<usize>
     ensures { result ≡ target_of place offset }
 {
     place.checked_add_signed(offset as isize)
+}
+
+/// The name of its instruction.
+impl fmt::Display for Operation {
+    fn fmt<W: fmt::Write>(&self, f: &mut fmt::Formatter<W>) -> fmt::Result {
+        f.write_str(match self {
+            Operation::Add => "iadd",
+            Operation::Sub => "isub",
+            Operation::Mul => "imul",
+            Operation::Div => "idiv",
+            Operation::Rem => "irem",
+            Operation::And => "iand",
+            Operation::Or => "ior",
+            Operation::Xor => "ixor",
+            Operation::Shl => "ishl",
+            Operation::Shr => "ishr",
+        })
+    }
+}
+
+/// The name of the branch that compares so.
+impl fmt::Display for Order {
+    fn fmt<W: fmt::Write>(&self, f: &mut fmt::Formatter<W>) -> fmt::Result {
+        f.write_str(match self {
+            Order::Less => "if_icmplt",
+            Order::GreaterOrEqual => "if_icmpge",
+            Order::Greater => "if_icmpgt",
+            Order::LessOrEqual => "if_icmple",
+        })
+    }
+}
+
+/// Its name and its operand, if it has one; a branch shows its offset.
+impl fmt::Display for Instruction {
+    fn fmt<W: fmt::Write>(&self, f: &mut fmt::Formatter<W>) -> fmt::Result {
+        match self {
+            Instruction::Nop => write!(f, "nop"),
+            Instruction::Pop => write!(f, "pop"),
+            Instruction::Dup => write!(f, "dup"),
+            Instruction::Swap => write!(f, "swap"),
+            Instruction::AconstNull => write!(f, "aconst_null"),
+            Instruction::Aldc(index) => write!(f, "aldc {index}"),
+            Instruction::Bipush(byte) => write!(f, "bipush {byte}"),
+            Instruction::Ildc(index) => write!(f, "ildc {index}"),
+            Instruction::Vload(variable) => write!(f, "vload {variable}"),
+            Instruction::Vstore(variable) => write!(f, "vstore {variable}"),
+            Instruction::Binary(operation) => write!(f, "{operation}"),
+            Instruction::IfCmpeq(offset) => write!(f, "if_cmpeq {offset}"),
+            Instruction::IfCmpne(offset) => write!(f, "if_cmpne {offset}"),
+            Instruction::IfIcmp(order, offset) => write!(f, "{order} {offset}"),
+            Instruction::Goto(offset) => write!(f, "goto {offset}"),
+            Instruction::Invokestatic(function) => write!(f, "invokestatic {function}"),
+            Instruction::Invokenative(native) => write!(f, "invokenative {native}"),
+            Instruction::Return => write!(f, "return"),
+            Instruction::New(size) => write!(f, "new {size}"),
+            Instruction::Newarray(size) => write!(f, "newarray {size}"),
+            Instruction::Arraylength => write!(f, "arraylength"),
+            Instruction::Aaddf(field) => write!(f, "aaddf {field}"),
+            Instruction::Aadds => write!(f, "aadds"),
+            Instruction::Imload => write!(f, "imload"),
+            Instruction::Cmload => write!(f, "cmload"),
+            Instruction::Amload => write!(f, "amload"),
+            Instruction::Imstore => write!(f, "imstore"),
+            Instruction::Cmstore => write!(f, "cmstore"),
+            Instruction::Amstore => write!(f, "amstore"),
+        }
+    }
 }

@@ -1,34 +1,36 @@
 // Why a package is not accepted.
 ghost use Rattle.std.specs.Prelude.{◌≡◌};
-ghost use Rattle.bytecode.specs.Outcome.{field_number, code_number, shown as shown_of};
+ghost use Rattle.bytecode.specs.Outcome.{field_number, code_number, shown, report};
 
-/// What is wrong with a field of a package or with a record of its sheet.
-#[derive(Clone, Copy)]
+use std::fmt;
+
+/// What is wrong with a field of a package or with a record of its sheet, by the number that is reported.
+#[derive(Clone, Copy, Debug, PartialEq, Eq)]
 pub enum FieldFault {
-    Cut,
-    Magic,
-    Version,
-    Limit,
-    StringEnd,
-    Sheet,
+    Cut = 10,
+    Magic = 11,
+    Version = 12,
+    Limit = 13,
+    StringEnd = 14,
+    Sheet = 15,
 }
 
-/// What is wrong with an instruction, or with the stack and the variables that reach it.
-#[derive(Clone, Copy)]
+/// What is wrong with an instruction, or with the stack and the variables that reach it, by the number that is reported.
+#[derive(Clone, Copy, Debug, PartialEq, Eq)]
 pub enum CodeFault {
-    Opcode,
-    TooFew,
-    TooMany,
-    WrongKind,
-    Variable,
-    PoolIndex,
-    NoStart,
-    StacksDiffer,
-    Return,
+    Opcode = 17,
+    TooFew = 18,
+    TooMany = 19,
+    WrongKind = 20,
+    Variable = 21,
+    PoolIndex = 22,
+    NoStart = 23,
+    StacksDiffer = 24,
+    Return = 25,
 }
 
 /// The first check that a package fails, and where.
-#[derive(Clone, Copy)]
+#[derive(Clone, Copy, Debug, PartialEq, Eq)]
 pub enum Refusal {
     Field {
         fault: FieldFault,
@@ -42,18 +44,19 @@ pub enum Refusal {
     },
 }
 
+/// A refusal as programs print it: its number, and the two numbers of its place.
+#[derive(Clone, Copy, Debug, PartialEq, Eq)]
+pub struct Report {
+    pub number: u8,
+    pub first: usize,
+    pub second: usize,
+}
+
 impl FieldFault {
     fn number(self) -> u8
         ensures { result ≡ field_number self }
     {
-        match self {
-            FieldFault::Cut => 10,
-            FieldFault::Magic => 11,
-            FieldFault::Version => 12,
-            FieldFault::Limit => 13,
-            FieldFault::StringEnd => 14,
-            FieldFault::Sheet => 15,
-        }
+        self as u8
     }
 }
 
@@ -61,33 +64,41 @@ impl CodeFault {
     fn number(self) -> u8
         ensures { result ≡ code_number self }
     {
-        match self {
-            CodeFault::Opcode => 17,
-            CodeFault::TooFew => 18,
-            CodeFault::TooMany => 19,
-            CodeFault::WrongKind => 20,
-            CodeFault::Variable => 21,
-            CodeFault::PoolIndex => 22,
-            CodeFault::NoStart => 23,
-            CodeFault::StacksDiffer => 24,
-            CodeFault::Return => 25,
-        }
+        self as u8
     }
 }
 
-impl Refusal {
-    /// Its number and the two numbers of its place: 0 and an offset, 0 and 0, or a function and a place of its code.
-    pub fn shown(self) -> (u8, usize, usize)
-        ensures { result ≡ shown_of self }
-    {
-        match self {
-            Refusal::Field { fault, offset } => (fault.number(), 0, offset),
-            Refusal::Table => (16, 0, 0),
+/// The place is 0 and an offset, 0 and 0, or a function and a place of its code.
+impl From<Refusal> for Report {
+    ghost from_gives = { λ refusal r. r ≡ report (shown refusal) };
+
+    fn from(refusal: Refusal) -> Report {
+        match refusal {
+            Refusal::Field { fault, offset } => Report {
+                number: fault.number(),
+                first: 0,
+                second: offset,
+            },
+            Refusal::Table => Report {
+                number: 16,
+                first: 0,
+                second: 0,
+            },
             Refusal::Code {
                 fault,
                 function,
                 place,
-            } => (fault.number(), function, place),
+            } => Report {
+                number: fault.number(),
+                first: function,
+                second: place,
+            },
         }
+    }
+}
+
+impl fmt::Display for Report {
+    fn fmt<W: fmt::Write>(&self, f: &mut fmt::Formatter<W>) -> fmt::Result {
+        write!(f, "{} {} {}", self.number, self.first, self.second)
     }
 }

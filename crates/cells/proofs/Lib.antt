@@ -1,4 +1,4 @@
-pub mod Stores
-pub mod Clears
-pub mod Arrays
 pub mod Allocations
+pub mod Placed
+pub mod Runs
+pub mod Stores

@@ -1,8 +1,9 @@
 -- A memory seen as storage, and a call's result seen as an attempt.
-use Rattle.std.specs.Prelude.{◌≡◌, ℕ, ◌<◌, length, Ok, Err, Result}
+use Rattle.std.specs.Prelude.{◌≡◌, ℕ, ◌%◌, true, ◌≤◌, length, Ok, Err, Result}
 use Rattle.bytecode.specs.declared.stop.Stop.{Stop}
-use Rattle.bytecode.specs.Stops.{Attempt, gives, stops}
-use Rattle.heap.specs.Storage.{Storage, Placement}
+use Rattle.bytecode.specs.Stops.{Attempt, gives, stops, and_then}
+use Rattle.heap.specs.declared.Cell.{Cell}
+use Rattle.heap.specs.Storage.{Storage, Placement, Known, from_bytes, locate, cell_in, stored_in}
 use Rattle.cells.specs.declared.memory.Memory.{Memory}
 
 abbrev pub storage_of : Memory → Storage
@@ -27,12 +28,26 @@ abbrev pub Unchanged : {A B : Type 0} → Result A Stop → B → B → Type 0
 Unchanged (Ok v) before after = Unit {0}
 Unchanged (Err e) before after = after ≡ before
 
--- an index given lies below the bound
-abbrev pub Within : ℕ → Attempt ℕ → Type 0
-Within bound (gives j) = j < bound
-Within bound (stops e) = Unit {0}
+-- a value given is as the fact says
+abbrev pub Given : {A : Type 0} → (A → Type 0) → Attempt A → Type 0
+Given P (gives v) = P v
+Given P (stops e) = Unit {0}
 
--- as many cells and block records are lent as before
-pub record SameLengths (before after : Storage) : Type 0 where
+-- a marked cell's number names a block that there is
+abbrev pub Naming : ℕ → Cell → Type 0
+Naming count c = c.mark ≡ true → Known count (from_bytes c.bytes)
+
+-- a load of so many bytes, by what it reads in a cell
+abbrev pub load : {A : Type 0} → ℕ → (Cell → ℕ → Attempt A) → Storage → ℕ → Attempt A
+load size reads l n = and_then (locate l n size) (λ j. reads (cell_in l j) (n % 8))
+
+-- a store of so many bytes, by what it writes in a cell
+abbrev pub store : ℕ → (Cell → ℕ → Attempt Cell) → Storage → ℕ → Attempt Storage
+store size writes l n = and_then (locate l n size) (λ j. stored_in l j (writes (cell_in l j) (n % 8)))
+
+-- what every call that may change memory keeps: a stop leaves all as it was, as many cells and block records are lent, and no block goes
+pub record Kept {A : Type 0} (answer : Result A Stop) (before after : Storage) : Type 0 where
+  pub stop : Unchanged answer before after
   pub cells : length after.cells ≡ length before.cells
   pub records : length after.records ≡ length before.records
+  pub blocks : before.count ≤ after.count

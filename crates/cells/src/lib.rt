@@ -1,5 +1,5 @@
 // The machine's memory over lent cells and block records, and the memory instructions.
 #![tactic(auto)]
 
-mod content;
+pub mod content;
 pub mod memory;

@@ -4,6 +4,7 @@
 #[cfg(test)]
 mod tests {
     use bytecode::stop::Stop;
+    use cells::content::{Byte, Reference, Word};
     use cells::memory::Memory;
     use heap::{BlockRecord, Cell};
     use std::process::Abort;
@@ -22,28 +23,11 @@ mod tests {
         size: 7,
     };
 
-    fn number(stop: Stop) -> u64 {
-        match stop {
-            Stop::Divide => 1,
-            Stop::Null => 2,
-            Stop::Bounds => 3,
-            Stop::Array => 4,
-            Stop::Text => 5,
-            Stop::Alignment => 6,
-            Stop::Mark => 7,
-            Stop::Length => 8,
-            Stop::Cells => 9,
-            Stop::Calls => 10,
-            Stop::Host(_) => 11,
-            Stop::Native => 12,
-        }
-    }
-
     // The number of the stop, or 0 for a value.
     fn stop<T: Drop>(res: Result<T, Stop>) -> u64 {
         match res {
             Ok(_) => 0,
-            Err(stop) => number(stop),
+            Err(stop) => stop.number() as u64,
         }
     }
 
@@ -68,14 +52,14 @@ mod tests {
         let mut m = Memory::over(&mut cells, &mut records);
         let first = m.new_single(0)?;
         let second = m.new_single(0)?;
-        let none = m.used as u64;
+        let none = 8 - m.left() as u64;
         let _ = m.new_single(1)?;
-        let one = m.used as u64;
+        let one = 8 - m.left() as u64;
         let a = m.new_array(4, 3)?;
-        let four = m.used as u64;
+        let four = 8 - m.left() as u64;
         let _ = m.new_array(0, 5)?;
         let _ = m.new_array(8, 0)?;
-        let six = m.used as u64;
+        let six = 8 - m.left() as u64;
         Ok([
             none,
             one,
@@ -99,8 +83,8 @@ mod tests {
         let too_long = stop(m.new_array(1, 25));
         let a = m.new_array(1, 24)?;
         let last = m.add_index(a, 23)?;
-        m.store_byte(last, 200)?;
-        let kept = m.load_byte(last)? as u64;
+        m.store::<Byte>(last, 200)?;
+        let kept = m.load::<Byte>(last)? as u64;
         let no_cell = stop(m.new_single(1));
         let no_length = stop(m.new_array(1, 2147483648));
         let _ = m.new_single(0)?;
@@ -118,20 +102,20 @@ mod tests {
         let mut records = [NO_RECORD; 1];
         let mut m = Memory::over(&mut cells, &mut records);
         let a = m.new_single(5)?;
-        m.store_word(a, 4278255873)?;
+        m.store::<Word>(a, 4278255873)?;
         let last = m.add_field(a, 4)?;
-        m.store_byte(last, 127)?;
-        let high = m.load_byte(a)? as u64;
+        m.store::<Byte>(last, 127)?;
+        let high = m.load::<Byte>(a)? as u64;
         let second = m.add_field(a, 1)?;
         let third = m.add_field(a, 2)?;
         let end = m.add_field(a, 5)?;
         Ok([
-            m.load_word(a)? as u64,
+            m.load::<Word>(a)? as u64,
             high,
-            m.load_byte(last)? as u64,
-            stop(m.load_byte(end)),
-            stop(m.load_word(second)),
-            stop(m.load_word(third)),
+            m.load::<Byte>(last)? as u64,
+            stop(m.load::<Byte>(end)),
+            stop(m.load::<Word>(second)),
+            stop(m.load::<Word>(third)),
             stop(m.add_field(last, 2)),
         ])
     }
@@ -148,24 +132,24 @@ mod tests {
         let mut m = Memory::over(&mut cells, &mut records);
         let a = m.new_single(16)?;
         let b = m.add_field(a, 8)?;
-        let fresh = m.load_reference(a)?;
-        m.store_reference(a, 0)?;
+        let fresh = m.load::<Reference>(a)?;
+        m.store::<Reference>(a, 0)?;
         let half = m.add_field(a, 4)?;
-        let word = stop(m.load_word(half));
-        let byte = stop(m.load_byte(half));
-        let over_word = stop(m.store_word(half, 0));
-        let over_byte = stop(m.store_byte(half, 0));
-        m.store_reference(a, b)?;
-        m.store_word(b, 1)?;
+        let word = stop(m.load::<Word>(half));
+        let byte = stop(m.load::<Byte>(half));
+        let over_word = stop(m.store::<Word>(half, 0));
+        let over_byte = stop(m.store::<Byte>(half, 0));
+        m.store::<Reference>(a, b)?;
+        m.store::<Word>(b, 1)?;
         Ok([
             fresh,
             word,
             byte,
             over_word,
             over_byte,
-            m.load_reference(a)? ^ b,
-            stop(m.load_reference(b)),
-            stop(m.store_reference(b, 0)),
+            m.load::<Reference>(a)? ^ b,
+            stop(m.load::<Reference>(b)),
+            stop(m.store::<Reference>(b, 0)),
         ])
     }
 
@@ -180,14 +164,14 @@ mod tests {
         let mut records = [NO_RECORD; 1];
         let mut m = Memory::over(&mut cells, &mut records);
         let a = m.new_single(16)?;
-        m.store_reference(a, a)?;
+        m.store::<Reference>(a, a)?;
         let b = m.add_field(a, 2)?;
         let c = m.add_field(a, 4)?;
         Ok([
-            stop(m.load_word(b)),
-            stop(m.load_reference(c)),
-            stop(m.store_reference(c, 0)),
-            stop(m.store_word(b, 1)),
+            stop(m.load::<Word>(b)),
+            stop(m.load::<Reference>(c)),
+            stop(m.store::<Reference>(c, 0)),
+            stop(m.store::<Word>(b, 1)),
         ])
     }
 
@@ -203,14 +187,14 @@ mod tests {
         let mut m = Memory::over(&mut cells, &mut records);
         let a = m.new_array(4, 3)?;
         let e = m.add_index(a, 1)?;
-        m.store_word(e, 5)?;
+        m.store::<Word>(e, 5)?;
         let inside = m.add_field(a, 3)?;
-        let below = stop(m.store_word(a, 1));
+        let below = stop(m.store::<Word>(a, 1));
         Ok([
             e ^ a,
-            m.load_word(e)? as u64,
-            stop(m.load_byte(a)),
-            stop(m.load_word(inside)),
+            m.load::<Word>(e)? as u64,
+            stop(m.load::<Byte>(a)),
+            stop(m.load::<Word>(inside)),
             below,
             m.array_length(a)? as u64,
         ])
@@ -255,7 +239,7 @@ mod tests {
         Ok([
             m.array_length(a)? as u64,
             e - a,
-            stop(m.load_byte(e)),
+            stop(m.load::<Byte>(e)),
             m.array_length(b)? as u64,
             stop(m.add_index(b, 0)),
         ])
@@ -274,12 +258,12 @@ mod tests {
         Ok([
             stop(m.array_length(0)),
             stop(m.add_field(0, 0)),
-            stop(m.load_reference(0)),
+            stop(m.load::<Reference>(0)),
             stop(m.array_length(1)),
             stop(m.add_index(65536, 0)),
             stop(m.add_field(1, 0)),
-            stop(m.store_byte(65536, 0)),
-            stop(m.load_word(1)),
+            stop(m.store::<Byte>(65536, 0)),
+            stop(m.load::<Word>(1)),
         ])
     }
 

@@ -1,7 +1,7 @@
 -- A host's behaviour does what the host does.
 use Rattle.std.proofs.Common.{◌≡◌, ℕ, zero, suc, ◌+◌, Bool, true, false, cond, not, eqb, ltb, leb, List, [], ◌∷◌, length, ℤ, Some, None, Option, sym, refl, ap, ◌∙◌, subst}
 use Rattle.bytecode.specs.declared.kind.Kind.{Kind}
-use Rattle.bytecode.specs.declared.kind.Kind.TheVariants.{Unknown, Word, Reference as Ref}
+use Rattle.bytecode.specs.declared.kind.Kind.TheVariants.{Word, Reference as Ref}
 use Rattle.bytecode.specs.declared.instruction.Instruction.{Instruction}
 use Rattle.bytecode.specs.declared.instruction.Instruction.TheVariants.{Nop, Pop, Dup, Swap, AconstNull, Aldc, Bipush, Ildc, Vload, Vstore, Binary, IfCmpeq, IfCmpne, IfIcmp, Goto, Invokestatic, Invokenative, Return, New, Newarray, Arraylength, Aaddf, Aadds, Imload, Cmload, Amload, Imstore, Cmstore, Amstore}
 use Rattle.bytecode.specs.Instructions.{size_of, decode_at, target}
@@ -13,16 +13,50 @@ use Rattle.host.specs.Hosts.{Host, Call, Lawful, fitting}
 use Rattle.host.specs.declared.call.Reply.{Reply}
 use Rattle.plan.specs.Programs.{nth}
 use Rattle.checked.specs.Runs.{Next, goes, ends, stops as halts, breaks, Status, live, ended, stopped, broken, Served, after, advance, iterate}
-use Rattle.checked.specs.Machine.{Value, word, reference, Frame, frame, Conf, conf, Sizes, reserve, reserved, agrees, is_kind, Taken, taken, short, arguments, call_of, references, variable, pop_word, pop_reference, pop_any, attempt, found, compared, took_arguments, only_value, resume, branch, return, answered, ask, exec, step, same_reference}
-use Rattle.checked.specs.Behaviour.{reached, behaviour, Behaves}
+use Rattle.checked.specs.Machine.{Value, word, reference, Frame, frame, Conf, conf, Sizes, reserve, reserved, agrees, is_kind, arguments, call_of, references, variable, pop_word, pop_reference, pop_any, attempt, found, compared, only_value, resume, branch, return, answered, ask, exec, step, same_reference}
+use Rattle.checked.specs.Behaviour.{reached, behaviour, Follows, Behaves}
 
 module _ {S : Type 0} (host : Host S) (s : S) where
   -- the same outcome, the host's state being the one reached
-  abbrev seen : Next Conf (List Call) → Next Conf S
+  abbrev pub seen : {C : Type 0} → Next C (List Call) → Next C S
   seen (goes c past) = goes c (reached host s past)
   seen (ends w past) = ends w (reached host s past)
   seen (halts e past) = halts e (reached host s past)
   seen (breaks past) = breaks (reached host s past)
+
+  pub cond_seen : {C : Type 0} (b : Bool) (x y : Next C (List Call)) (u v : Next C S) → seen x ≡ u → seen y ≡ v → seen (cond b x y) ≡ cond b u v
+  cond_seen true x y u v g h = g
+  cond_seen false x y u v g h = h
+
+  -- ## Runs of any machine
+
+  abbrev seen_run : {C : Type 0} → Served C (List Call) → Served C S
+  seen_run r = record { machine = r.machine; host = reached host s r.host }
+
+  after_seen : {C : Type 0} (n : ℕ) (c : C) (x : Next C (List Call)) → seen_run (after n c x) ≡ after n c (seen x)
+  after_seen n c (goes d past) = refl
+  after_seen n c (ends w past) = refl
+  after_seen n c (halts e past) = refl
+  after_seen n c (breaks past) = refl
+
+  -- a machine's step with the behaviour, and with the host
+  module _ {C : Type 0} (told : C → List Call → Next C (List Call)) (step : C → S → Next C S)
+      (same : (c : C) (past : List Call) → seen (told c past) ≡ step c (reached host s past)) where
+    advance_seen : (x : Status C) (past : List Call) → seen_run (advance told x past) ≡ advance step x (reached host s past)
+    advance_seen (live n c) past = after_seen n c (told c past) ∙ ap (after n c) (same c past)
+    advance_seen (ended n w c) past = refl
+    advance_seen (stopped n e c) past = refl
+    advance_seen (broken n c) past = refl
+
+    iterate_seen : (k : ℕ) (x : Status C) (past : List Call) → seen_run (iterate told k x past) ≡ iterate step k x (reached host s past)
+    iterate_seen zero x past = refl
+    iterate_seen (suc k) x past =
+        iterate_seen k (advance told x past).machine (advance told x past).host ∙ ap (λ r. iterate step k r.machine r.host) (advance_seen x past)
+
+    pub follows : Follows host s told step
+    follows = record { machine = λ k x past. ap (λ r. r.machine) (iterate_seen k x past); state = λ k x past. ap (λ r. r.host) (iterate_seen k x past) }
+
+  -- ## One step of the checked machine
 
   module _ (past : List Call) where
     abbrev now : S
@@ -45,10 +79,6 @@ module _ {S : Type 0} (host : Host S) (s : S) where
     any_seen [] k j g = refl
     any_seen (v ∷ t) k j g = g v t
 
-    cond_seen : (b : Bool) (x y : Next Conf (List Call)) (u v : Next Conf S) → seen x ≡ u → seen y ≡ v → seen (cond b x y) ≡ cond b u v
-    cond_seen true x y u v g h = g
-    cond_seen false x y u v g h = h
-
     attempt_seen : {A : Type 0} (x : Attempt A) (k : A → Next Conf (List Call)) (j : A → Next Conf S) → ((a : A) → seen (k a) ≡ j a) → seen (attempt x past k) ≡ attempt x now j
     attempt_seen (gives a) k j g = g a
     attempt_seen (stops e) k j g = refl
@@ -56,11 +86,6 @@ module _ {S : Type 0} (host : Host S) (s : S) where
     found_seen : {A : Type 0} (o : Option A) (k : A → Next Conf (List Call)) (j : A → Next Conf S) → ((a : A) → seen (k a) ≡ j a) → seen (found o past k) ≡ found o now j
     found_seen None k j g = refl
     found_seen (Some a) k j g = g a
-
-    took_seen : (t : Taken) (k : List Value → List Value → Next Conf (List Call)) (j : List Value → List Value → Next Conf S)
-        → ((a b : List Value) → t ≡ taken a b → seen (k a b) ≡ j a b) → seen (took_arguments t past k) ≡ took_arguments t now j
-    took_seen (taken a b) k j g = g a b refl
-    took_seen short k j g = refl
 
     only_seen : (st : List Value) (k : Value → Next Conf (List Call)) (j : Value → Next Conf S) → ((v : Value) → seen (k v) ≡ j v) → seen (only_value st past k) ≡ only_value st now j
     only_seen [] k j g = refl
@@ -86,10 +111,6 @@ module _ {S : Type 0} (host : Host S) (s : S) where
 
   answered_seen : (past : List Call) (k : Kind) (r : Reply) (rs : List Reference) (c : Value → Next Conf (List Call)) (d : Value → Next Conf S) → ((v : Value) → seen (c v) ≡ d v)
       → seen (answered k r rs past c) ≡ answered k r rs (reached host s past) d
-  answered_seen past Unknown (Reply.Word n) rs c d g = refl
-  answered_seen past Unknown Reply.Null rs c d g = refl
-  answered_seen past Unknown (Reply.Argument j) rs c d g = refl
-  answered_seen past Unknown (Reply.Stop e) rs c d g = refl
   answered_seen past Word (Reply.Word n) rs c d g = g (word n)
   answered_seen past Word Reply.Null rs c d g = refl
   answered_seen past Word (Reply.Argument j) rs c d g = refl
@@ -112,7 +133,7 @@ module _ {S : Type 0} (host : Host S) (s : S) where
         → ((v : Value) (qs : List Call) → seen (k v qs) ≡ j v (reached host s qs))
         → seen (ask P (behaviour host s) sizes n args past k) ≡ ask P host sizes n args (reached host s past) j
     ask_seen P sizes past n args k j g =
-        cond_seen past (agrees n.signature (host.signs n.index)) _ _ _ _
+        cond_seen (agrees n.signature (host.signs n.index)) _ _ _ _
         (subst (λ u. seen (answered n.signature.result (host.replies (reached host s past) (call_of P n args)) (references args) ((behaviour host s).becomes past (call_of P n args)) (λ v. k v ((behaviour host s).becomes past (call_of P n args))))
         ≡ answered n.signature.result (host.replies (reached host s past) (call_of P n args)) (references args) u (λ v. j v u)) (reached_call past (call_of P n args))
         (answered_seen ((behaviour host s).becomes past (call_of P n args)) n.signature.result (host.replies (reached host s past) (call_of P n args)) (references args) _ _ (λ v. g v _)))
@@ -123,28 +144,28 @@ module _ {S : Type 0} (host : Host S) (s : S) where
     unfolding exec
     exec_seen P sizes past Nop f p q vs st rest h = refl
     exec_seen P sizes past Pop f p q vs st rest h = any_seen past st _ _ (λ v t. refl)
-    exec_seen P sizes past Dup f p q vs st rest h = any_seen past st _ _ (λ v t. cond_seen past (ltb (length st) 32) _ _ _ _ refl refl)
+    exec_seen P sizes past Dup f p q vs st rest h = any_seen past st _ _ (λ v t. cond_seen (ltb (length st) 32) _ _ _ _ refl refl)
     exec_seen P sizes past Swap f p q vs st rest h = any_seen past st _ _ (λ y u. any_seen past u _ _ (λ x t. refl))
-    exec_seen P sizes past AconstNull f p q vs st rest h = cond_seen past (ltb (length st) 32) _ _ _ _ refl refl
-    exec_seen P sizes past (Aldc c) f p q vs st rest h = cond_seen past (ltb c (length P.strings)) _ _ _ _ (cond_seen past (ltb (length st) 32) _ _ _ _ refl refl) refl
-    exec_seen P sizes past (Bipush b) f p q vs st rest h = cond_seen past (ltb (length st) 32) _ _ _ _ refl refl
-    exec_seen P sizes past (Ildc c) f p q vs st rest h = found_seen past (nth P.integers c) _ _ (λ n. cond_seen past (ltb (length st) 32) _ _ _ _ refl refl)
-    exec_seen P sizes past (Vload i) f p q vs st rest h = found_seen past (variable vs i) _ _ (λ v. cond_seen past (ltb (length st) 32) _ _ _ _ refl refl)
-    exec_seen P sizes past (Vstore i) f p q vs st rest h = any_seen past st _ _ (λ v t. cond_seen past (ltb i (length vs)) _ _ _ _ refl refl)
+    exec_seen P sizes past AconstNull f p q vs st rest h = cond_seen (ltb (length st) 32) _ _ _ _ refl refl
+    exec_seen P sizes past (Aldc c) f p q vs st rest h = cond_seen (ltb c (length P.strings)) _ _ _ _ (cond_seen (ltb (length st) 32) _ _ _ _ refl refl) refl
+    exec_seen P sizes past (Bipush b) f p q vs st rest h = cond_seen (ltb (length st) 32) _ _ _ _ refl refl
+    exec_seen P sizes past (Ildc c) f p q vs st rest h = found_seen past (nth P.integers c) _ _ (λ n. cond_seen (ltb (length st) 32) _ _ _ _ refl refl)
+    exec_seen P sizes past (Vload i) f p q vs st rest h = found_seen past (variable vs i) _ _ (λ v. cond_seen (ltb (length st) 32) _ _ _ _ refl refl)
+    exec_seen P sizes past (Vstore i) f p q vs st rest h = any_seen past st _ _ (λ v t. cond_seen (ltb i (length vs)) _ _ _ _ refl refl)
     exec_seen P sizes past (Binary op) f p q vs st rest h = word_seen past st _ _ (λ y u. word_seen past u _ _ (λ x t. attempt_seen past (compute op x y) _ _ (λ z. refl)))
     exec_seen P sizes past (IfCmpeq o) f p q vs st rest h = any_seen past st _ _ (λ y u. any_seen past u _ _ (λ x t. compared_seen past x y _ _ (λ b. branch_seen past b o f p q vs t rest h)))
     exec_seen P sizes past (IfCmpne o) f p q vs st rest h = any_seen past st _ _ (λ y u. any_seen past u _ _ (λ x t. compared_seen past x y _ _ (λ b. branch_seen past (not b) o f p q vs t rest h)))
     exec_seen P sizes past (IfIcmp order o) f p q vs st rest h = word_seen past st _ _ (λ y u. word_seen past u _ _ (λ x t. branch_seen past (holds order x y) o f p q vs t rest h))
     exec_seen P sizes past (Goto o) f p q vs st rest h = branch_seen past true o f p q vs st rest h
     exec_seen P sizes past (Invokestatic c) f p q vs st rest h =
-        found_seen past (nth P.functions c) _ _ (λ g. took_seen past (arguments g.signature st) _ _ (λ args t e. cond_seen past (ltb (length t) 32) _ _ _ _
-        (cond_seen past (ltb (suc (length rest)) sizes.frames) _ _ _ _ (cond_seen past (leb (reserve (Some g) + reserved P (frame f q vs t ∷ rest)) sizes.slots) _ _ _ _ refl refl) refl) refl))
+        found_seen past (nth P.functions c) _ _ (λ g. found_seen past (arguments g.signature st) _ _ (λ a. cond_seen (ltb (length a.left) 32) _ _ _ _
+        (cond_seen (ltb (suc (length rest)) sizes.frames) _ _ _ _ (cond_seen (leb (reserve (Some g) + reserved P (frame f q vs a.left ∷ rest)) sizes.slots) _ _ _ _ refl refl) refl) refl))
     exec_seen P sizes past (Invokenative c) f p q vs st rest h =
-        found_seen past (nth P.natives c) _ _ (λ n. took_seen past (arguments n.signature st) _ _ (λ args t e. cond_seen past (ltb (length t) 32) _ _ _ _
-        (ask_seen P sizes past n args (λ v u. resume f q vs (v ∷ t) rest h u) (λ v u. resume f q vs (v ∷ t) rest h u) (λ v qs. refl)) refl))
+        found_seen past (nth P.natives c) _ _ (λ n. found_seen past (arguments n.signature st) _ _ (λ a. cond_seen (ltb (length a.left) 32) _ _ _ _
+        (ask_seen P sizes past n a.values (λ v u. resume f q vs (v ∷ a.left) rest h u) (λ v u. resume f q vs (v ∷ a.left) rest h u) (λ v qs. refl)) refl))
     exec_seen P sizes past Return f p q vs st rest h =
-        found_seen past (nth P.functions f) _ _ (λ g. only_seen past st _ _ (λ v. cond_seen past (is_kind g.signature.result v) _ _ _ _ (return_seen past v rest h) refl))
-    exec_seen P sizes past (New b) f p q vs st rest h = cond_seen past (ltb (length st) 32) _ _ _ _ (attempt_seen past (new sizes.cells sizes.records h b) _ _ (λ a. refl)) refl
+        found_seen past (nth P.functions f) _ _ (λ g. only_seen past st _ _ (λ v. cond_seen (is_kind g.signature.result v) _ _ _ _ (return_seen past v rest h) refl))
+    exec_seen P sizes past (New b) f p q vs st rest h = cond_seen (ltb (length st) 32) _ _ _ _ (attempt_seen past (new sizes.cells sizes.records h b) _ _ (λ a. refl)) refl
     exec_seen P sizes past (Newarray b) f p q vs st rest h = word_seen past st _ _ (λ n t. attempt_seen past (newarray sizes.cells sizes.records h b n) _ _ (λ a. refl))
     exec_seen P sizes past Arraylength f p q vs st rest h = reference_seen past st _ _ (λ r t. attempt_seen past (arraylength h r) _ _ (λ n. refl))
     exec_seen P sizes past (Aaddf b) f p q vs st rest h = reference_seen past st _ _ (λ r t. attempt_seen past (aaddf h r b) _ _ (λ n. refl))
@@ -160,31 +181,6 @@ module _ {S : Type 0} (host : Host S) (s : S) where
     step_seen P sizes past (conf (frame f p vs st) rest h) =
         found_seen past (nth P.functions f) _ _ (λ g. found_seen past (decode_at g.code p) _ _ (λ i. exec_seen P sizes past i f p (p + size_of i) vs st rest h))
 
-    -- ## Runs
-
-    abbrev seen_run : Served Conf (List Call) → Served Conf S
-    seen_run r = record { machine = r.machine; host = reached host s r.host }
-
-    after_seen : (n : ℕ) (c : Conf) (x : Next Conf (List Call)) → seen_run (after n c x) ≡ after n c (seen x)
-    after_seen n c (goes d past) = refl
-    after_seen n c (ends w past) = refl
-    after_seen n c (halts e past) = refl
-    after_seen n c (breaks past) = refl
-
-    advance_seen : (P : Program) (sizes : Sizes) (x : Status Conf) (past : List Call)
-        → seen_run (advance (step P (behaviour host s) sizes) x past) ≡ advance (step P host sizes) x (reached host s past)
-    advance_seen P sizes (live n c) past = after_seen n c (step P (behaviour host s) sizes c past) ∙ ap (after n c) (step_seen P sizes past c)
-    advance_seen P sizes (ended n w c) past = refl
-    advance_seen P sizes (stopped n e c) past = refl
-    advance_seen P sizes (broken n c) past = refl
-
-    iterate_seen : (P : Program) (sizes : Sizes) (k : ℕ) (x : Status Conf) (past : List Call)
-        → seen_run (iterate (step P (behaviour host s) sizes) k x past) ≡ iterate (step P host sizes) k x (reached host s past)
-    iterate_seen P sizes zero x past = refl
-    iterate_seen P sizes (suc k) x past =
-        iterate_seen P sizes k (advance (step P (behaviour host s) sizes) x past).machine (advance (step P (behaviour host s) sizes) x past).host
-        ∙ ap (λ r. iterate (step P host sizes) k r.machine r.host) (advance_seen P sizes x past)
-
     pub behaviour_lawful : Lawful (behaviour host s)
     behaviour_lawful =
         record {
@@ -197,6 +193,5 @@ module _ {S : Type 0} (host : Host S) (s : S) where
     behaves =
         record {
           lawful = behaviour_lawful;
-          machine = λ P sizes k x past. ap (λ r. r.machine) (iterate_seen P sizes k x past);
-          state = λ P sizes k x past. ap (λ r. r.host) (iterate_seen P sizes k x past);
+          follows = λ P sizes. follows (step P (behaviour host s) sizes) (step P host sizes) (λ c past. step_seen P sizes past c);
         }

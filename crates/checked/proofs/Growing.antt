@@ -1,7 +1,7 @@
 -- More memory changes a step only where it is stop 9 or 10.
 use Rattle.std.proofs.Common.{◌≡◌, ℕ, suc, ◌+◌, ◌^◌, ◌≤◌, Bool, true, false, cond, ltb, leb, ◌⊎◌, List, [], ◌∷◌, ◌++◌, length, Some, None, Option, sym, refl, ap₂, inl, inr, arith, ltb-true, lt-ltb, le-leb, leb-true}
 use Rattle.bytecode.specs.declared.instruction.Instruction.{Instruction}
-use Rattle.bytecode.specs.declared.instruction.Instruction.TheVariants.{Nop, Pop, Dup, Swap, AconstNull, Aldc, Bipush, Ildc, Vload, Vstore, Binary, IfCmpeq, IfCmpne, IfIcmp, Goto, Invokestatic, Invokenative, Return, New, Newarray, Arraylength, Aaddf, Aadds, Imload, Cmload, Amload, Imstore, Cmstore, Amstore}
+use Rattle.bytecode.specs.declared.instruction.Instruction.TheVariants.{Invokestatic, New, Newarray}
 use Rattle.bytecode.specs.Instructions.{size_of, decode_at}
 use Rattle.bytecode.specs.Program.{Program, Function}
 use Rattle.bytecode.specs.declared.stop.Stop.TheVariants.{Cells, Length}
@@ -10,7 +10,7 @@ use Rattle.heap.specs.Checked.{Heap, Layout, single, array, room, total, fresh, 
 use Rattle.host.specs.Hosts.{Host}
 use Rattle.plan.specs.Programs.{nth}
 use Rattle.checked.specs.Runs.{Next, breaks}
-use Rattle.checked.specs.Machine.{Value, word, reference, Frame, frame, Conf, conf, Sizes, reserve, reserved, Taken, taken, short, arguments, pop_word, room_for, attempt, found, took_arguments, enter, exec, step}
+use Rattle.checked.specs.Machine.{Value, word, reference, Frame, frame, Conf, conf, Sizes, reserve, reserved, arguments, pop_word, room_for, attempt, found, enter, exec, step}
 use Rattle.checked.specs.Law.{NoLess}
 use Rattle.checked.proofs.Running.{Capped}
 
@@ -55,11 +55,6 @@ module _ {S : Type 0} where
   grows_found None s x y g = inl refl
   grows_found (Some a) s x y g = g a
 
-  grows_took : (t : Taken) (s : S) (x y : List Value → List Value → Next Conf S) → ((a b : List Value) → Grows (x a b) (y a b))
-      → Grows (took_arguments t s x) (took_arguments t s y)
-  grows_took short s x y g = inl refl
-  grows_took (taken a b) s x y g = g a b
-
   grows_word : (st : List Value) (s : S) (x y : ℕ → List Value → Next Conf S) → ((n : ℕ) (t : List Value) → Grows (x n t) (y n t))
       → Grows (pop_word st s x) (pop_word st s y)
   grows_word [] s x y g = inl refl
@@ -91,38 +86,13 @@ module _ {S : Type 0} where
     exec_grows : (i : Instruction) (f p q : ℕ) (vs : List (Option Value)) (st : List Value) (rest : List Frame) (h : Heap) (s : S)
         → Grows (exec P host sizes i f p q vs st rest h s) (exec P host more i f p q vs st rest h s)
     unfolding exec
-    exec_grows Nop f p q vs st rest h s = inl refl
-    exec_grows Pop f p q vs st rest h s = inl refl
-    exec_grows Dup f p q vs st rest h s = inl refl
-    exec_grows Swap f p q vs st rest h s = inl refl
-    exec_grows AconstNull f p q vs st rest h s = inl refl
-    exec_grows (Aldc c) f p q vs st rest h s = inl refl
-    exec_grows (Bipush b) f p q vs st rest h s = inl refl
-    exec_grows (Ildc c) f p q vs st rest h s = inl refl
-    exec_grows (Vload i) f p q vs st rest h s = inl refl
-    exec_grows (Vstore i) f p q vs st rest h s = inl refl
-    exec_grows (Binary op) f p q vs st rest h s = inl refl
-    exec_grows (IfCmpeq o) f p q vs st rest h s = inl refl
-    exec_grows (IfCmpne o) f p q vs st rest h s = inl refl
-    exec_grows (IfIcmp order o) f p q vs st rest h s = inl refl
-    exec_grows (Goto o) f p q vs st rest h s = inl refl
     exec_grows (Invokestatic c) f p q vs st rest h s =
-        grows_found (nth P.functions c) s _ _ (λ g. grows_took (arguments g.signature st) s _ _ (λ args t.
-        grows_room t s _ _ (enter_grows c g args f q vs t rest h s)))
-    exec_grows (Invokenative c) f p q vs st rest h s = inl refl
-    exec_grows Return f p q vs st rest h s = inl refl
+        grows_found (nth P.functions c) s _ _ (λ g. grows_found (arguments g.signature st) s _ _ (λ a.
+        grows_room a.left s _ _ (enter_grows c g a.values f q vs a.left rest h s)))
     exec_grows (New b) f p q vs st rest h s =
         grows_room st s _ _ (allocate_grows sizes.cells sizes.records more.cells more.records le.cells le.records h (single b) s _)
     exec_grows (Newarray b) f p q vs st rest h s = grows_word st s _ _ (λ n t. newarray_grows h b n s _)
-    exec_grows Arraylength f p q vs st rest h s = inl refl
-    exec_grows (Aaddf b) f p q vs st rest h s = inl refl
-    exec_grows Aadds f p q vs st rest h s = inl refl
-    exec_grows Imload f p q vs st rest h s = inl refl
-    exec_grows Cmload f p q vs st rest h s = inl refl
-    exec_grows Amload f p q vs st rest h s = inl refl
-    exec_grows Imstore f p q vs st rest h s = inl refl
-    exec_grows Cmstore f p q vs st rest h s = inl refl
-    exec_grows Amstore f p q vs st rest h s = inl refl
+    exec_grows i f p q vs st rest h s = inl refl
 
     pub step_grows : (c : Conf) (s : S) → Grows (step P host sizes c s) (step P host more c s)
     step_grows (conf (frame f p vs st) rest h) s =

@@ -1,7 +1,9 @@
 -- A step of a sound configuration does not break, and what it goes on to is sound.
-use Rattle.std.proofs.Common.{◌≡◌, ℕ, suc, ◌+◌, ◌-◌, ◌<◌, ◌≤◌, Bool, true, false, cond, not, eqb, ltb, leb, List, [], ◌∷◌, ◌++◌, map, reverse, length, set, replicate, ℤ, Some, None, Option, sym, refl, ap, ◌∙◌, subst, arith, length-set, ltb-true, lt-ltb}
+use Rattle.std.proofs.Common.{◌≡◌, ℕ, suc, ◌+◌, ◌-◌, ◌<◌, ◌≤◌, Bool, true, false, cond, not, eqb, ltb, leb, List, [], ◌∷◌, ◌++◌, map, reverse, length, set, replicate, ℤ, Some, None, Option, sym, refl, ap, ◌∙◌, subst, arith, length-set, lt-ltb}
+use lib.ListN.{length-map}
+use Rattle.std.proofs.lemmas.Option.{get_or_from_slice_get, slice_get_within}
 use Rattle.bytecode.specs.declared.kind.Kind.{Kind}
-use Rattle.bytecode.specs.declared.kind.Kind.TheVariants.{Unknown, Word, Reference as Ref}
+use Rattle.bytecode.specs.declared.kind.Kind.TheVariants.{Word, Reference as Ref}
 use Rattle.bytecode.specs.declared.stop.Stop.TheVariants.{Native as NoNative}
 use Rattle.bytecode.specs.declared.instruction.Instruction.{Instruction}
 use Rattle.bytecode.specs.declared.instruction.Instruction.TheVariants.{Nop, Pop, Dup, Swap, AconstNull, Aldc, Bipush, Ildc, Vload, Vstore, Binary, IfCmpeq, IfCmpne, IfIcmp, Goto, Invokestatic, Invokenative, Return, New, Newarray, Arraylength, Aaddf, Aadds, Imload, Cmload, Amload, Imstore, Cmstore, Amstore}
@@ -17,12 +19,13 @@ use Rattle.plan.specs.Programs.{nth, function_at, variables_at, no_function}
 use Rattle.plan.specs.Shapes.{Shape}
 use Rattle.plan.specs.Effects.{effect, fixed, perform, performed, within, call_static, call_native}
 use Rattle.plan.specs.Plans.{Hits, Lands, successors, shape_at, entry_of, Good}
+use Rattle.plan.proofs.Following.{hits_shape}
 use Rattle.checked.specs.Runs.{Next, goes, ends, stops as halts, breaks}
-use Rattle.checked.specs.Machine.{Value, word, reference, kind_of, Frame, frame, Conf, conf, Sizes, reserve, reserved, agrees, is_kind, Taken, taken, arguments, call_of, references, argument_of, variable, pop_word, pop_reference, pop_any, room_for, attempt, found, compared, took_arguments, only_value, resume, branch, enter, return, answered, ask, exec, step, same_reference}
+use Rattle.checked.specs.Machine.{Value, word, reference, kind_of, Frame, frame, Conf, conf, Sizes, reserve, reserved, agrees, is_kind, arguments, call_of, references, argument_of, variable, pop_word, pop_reference, pop_any, room_for, attempt, found, compared, only_value, resume, branch, enter, return, answered, ask, exec, step, same_reference}
 use Rattle.checked.specs.Law.{Plans, Accepted}
 use Rattle.checked.specs.Sound.{Held, Holding, Fits, Callers, main, more, Sound}
-use Rattle.checked.proofs.Stacking.{Kinded, bare, words, refs, kinded_at, kinds_are, Replaced, replaced, loads, stores, pops, doubles, swaps, pairs, gives_result, Given, given, is_kind_lem, arguments_fit, count_references_lem}
-use Rattle.checked.proofs.Pieces.{nth-get_or, nth_within, nth_some, length-map, agrees_is, held_value, holding_reach, holding_set, entry_holding, entry_length, hits_shape}
+use Rattle.checked.proofs.Stacking.{Kinded, bare, words, refs, kinded_at, kinds_are, Replaced, replaced, from_pool, loads, stores, pops, doubles, swaps, pairs, gives_result, Given, given, is_kind_lem, arguments_fit, count_references_lem}
+use Rattle.checked.proofs.Pieces.{nth_some, agrees_is, held_value, holding_reach, holding_set, entry_holding, entry_length}
 
 module _ (P : Program) (plans : Plans) where
   abbrev pub Fine : {S : Type 0} → Next Conf S → Type 0
@@ -62,14 +65,10 @@ module _ (P : Program) (plans : Plans) where
     found_fine : {A : Type 0} (o : Option A) (s : S) (k : A → Next Conf S) (a : A) → o ≡ Some a → Fine (k a) → Fine (found o s k)
     found_fine o s k a e g = subst (λ x. Fine (found x s k)) (sym e) g
 
-    took_fine : (t : Taken) (s : S) (k : List Value → List Value → Next Conf S) (a b : List Value) → t ≡ taken a b → Fine (k a b)
-        → Fine (took_arguments t s k)
-    took_fine t s k a b e g = subst (λ x. Fine (took_arguments x s k)) (sym e) g
-
     compared_fine : (x y : Value) (s : S) (k : Bool → Next Conf S) → kind_of x ≡ kind_of y → ((b : Bool) → Fine (k b)) → Fine (compared x y s k)
     compared_fine (word x) (word y) s k e g = g (eqb x y)
-    compared_fine (word x) (reference r) s k e g = absurd (let z : ◌≡◌ {A = ℕ} 0 1 = cc in let b : ⊥ = omega arith in b)
-    compared_fine (reference q) (word y) s k e g = absurd (let z : ◌≡◌ {A = ℕ} 0 1 = cc in let b : ⊥ = omega arith in b)
+    compared_fine (word x) (reference r) s k e g = cc
+    compared_fine (reference q) (word y) s k e g = cc
     compared_fine (reference q) (reference r) s k e g = g (same_reference q r)
 
     cond_fine : (b : Bool) (x y : Next Conf S) → Fine x → Fine y → Fine (cond b x y)
@@ -83,7 +82,6 @@ module _ (P : Program) (plans : Plans) where
     answered_fine Suits.null rs e s c g = g (reference null) refl
     answered_fine (Suits.argument {n} {i} lt) rs e s c g =
         let x = nth_some rs i (omega arith) in found_fine (nth rs i) s (λ r. c (reference r)) x.0 x.1 (g (reference x.0) refl)
-    answered_fine (Suits.stop {k = Unknown}) rs e s c g = tt
     answered_fine (Suits.stop {k = Word}) rs e s c g = tt
     answered_fine (Suits.stop {k = Ref}) rs e s c g = tt
 
@@ -106,10 +104,10 @@ module _ (P : Program) (plans : Plans) where
 
 module _ (P : Program) (plans : Plans) (ok : Accepted P plans) where
   pub good_plan : (f : ℕ) (g : Function) → nth P.functions f ≡ Some g → Good P f (plans f)
-  good_plan f g e = (ok.fullest f (nth_within P.functions f g e)).sound
+  good_plan f g e = (ok.fullest f (slice_get_within P.functions f g e)).sound
 
   pub is_function : (f : ℕ) (g : Function) → nth P.functions f ≡ Some g → function_at P f ≡ g
-  is_function f g e = nth-get_or P.functions f g no_function e
+  is_function f g e = get_or_from_slice_get P.functions f g no_function e
 
   module _ {S : Type 0} (host : Host S) (lawful : Lawful host) (sizes : Sizes) (f p : ℕ) (vs : List (Option Value)) (st : List Value)
       (rest : List Frame) (h : Heap) (s : S) (d : Fits P plans f p vs (map kind_of st)) (callers : Callers P plans f rest) where
@@ -132,7 +130,7 @@ module _ (P : Program) (plans : Plans) (ok : Accepted P plans) where
     low l r e le =
         let a = ap length e in
         let b = ap length d.stack in
-        let c = length-map kind_of st in
+        let c = length-map st kind_of in
         omega arith
 
     pushes : (l : Kind) (r : Shape) (q : ℕ) (v : Value) → Replaced [] (l ∷ []) d.shape r → kind_of v ≡ l → Hits r (plans f q) → (k : Heap) → Fine P plans (resume f q vs (v ∷ st) rest k s)
@@ -165,12 +163,12 @@ module _ (P : Program) (plans : Plans) (ok : Accepted P plans) where
 
         new_frame : Fits P plans c 0 (map Some a.args ++ replicate (g.variables - length a.args) None) []
         new_frame =
-            let n : length a.args ≡ length g.signature.arguments = sym (length-map kind_of a.args) ∙ ap length a.kinds_args in
+            let n : length a.args ≡ length g.signature.arguments = sym (length-map a.args kind_of) ∙ ap length a.kinds_args in
             fits_at P plans c 0 g (map Some a.args ++ replicate (g.variables - length a.args) None) (entry_of (function_at P c)) [] known
             (entry_length a.args g.variables (length g.signature.arguments) n (ok.formed.functions c g known).counted)
             (good_plan c g known).begins refl
             (subst (λ k. Holding (map Some a.args ++ replicate (g.variables - length a.args) None) (entry_of k).variables) (sym is_g)
-            (subst (λ k. Holding (map Some a.args ++ replicate (g.variables - length a.args) None) (k ++ replicate (32 - length k) Unknown)) a.kinds_args
+            (subst (λ k. Holding (map Some a.args ++ replicate (g.variables - length a.args) None) (map Some k ++ replicate (32 - length k) None)) a.kinds_args
             (entry_holding a.args (g.variables - length a.args) (32 - length (map kind_of a.args)))))
 
         waiting : Callers P plans c (frame f q vs a.left ∷ rest)
@@ -180,14 +178,14 @@ module _ (P : Program) (plans : Plans) (ok : Accepted P plans) where
 
     calls : (c : ℕ) (q : ℕ) (r : Shape) → (o : Option Function) → nth P.functions c ≡ o
         → performed f p (variables_at P f) d.shape (call_static o) ≡ good r → Hits r (plans f q)
-        → Fine P plans (found o s (λ g. took_arguments (arguments g.signature st) s (λ args t. room_for t s (enter P host sizes c g args f q vs t rest h s))))
-    calls c q r None known e hit = absurd (let z : ◌≡◌ {A = ℕ} 0 1 = cc in let b : ⊥ = omega arith in b)
+        → Fine P plans (found o s (λ g. found (arguments g.signature st) s (λ t. room_for t.left s (enter P host sizes c g t.values f q vs t.left rest h s))))
+    calls c q r None known e hit = cc
     calls c q r (Some g) known e hit =
         let x = replaced f p (variables_at P f) (reverse g.signature.arguments) (g.signature.result ∷ []) d.shape r e in
         let a = given g.signature x.rest st (sym d.stack ∙ x.before) in
         let n : length a.left < 32 =
-        (let i = ap length a.kinds_left in let j = length-map kind_of a.left in let k = ap length x.after in let l = x.low in omega arith) in
-        took_fine P plans (arguments g.signature st) s _ a.args a.left a.takes_them
+        (let i = ap length a.kinds_left in let j = length-map a.left kind_of in let k = ap length x.after in let l = x.low in omega arith) in
+        found_fine P plans (arguments g.signature st) s _ _ a.takes_them
         (room_fine P plans a.left s _ n (enters c g q r known x hit a))
 
     asks : (n : Native) (q : ℕ) (r : Shape) (e : Replaced (reverse n.signature.arguments) (n.signature.result ∷ []) d.shape r) → Hits r (plans f q)
@@ -210,15 +208,15 @@ module _ (P : Program) (plans : Plans) (ok : Accepted P plans) where
             (subst (Holding vs) (sym e.same) d.holding) refl)
 
     natives : (c : ℕ) (q : ℕ) (r : Shape) → (o : Option Native) → performed f p (variables_at P f) d.shape (call_native o) ≡ good r → Hits r (plans f q)
-        → Fine P plans (found o s (λ n. took_arguments (arguments n.signature st) s (λ args t. room_for t s
-        (ask P host sizes n args s (λ v u. resume f q vs (v ∷ t) rest h u)))))
-    natives c q r None e hit = absurd (let z : ◌≡◌ {A = ℕ} 0 1 = cc in let b : ⊥ = omega arith in b)
+        → Fine P plans (found o s (λ n. found (arguments n.signature st) s (λ t. room_for t.left s
+        (ask P host sizes n t.values s (λ v u. resume f q vs (v ∷ t.left) rest h u)))))
+    natives c q r None e hit = cc
     natives c q r (Some m) e hit =
         let x = replaced f p (variables_at P f) (reverse m.signature.arguments) (m.signature.result ∷ []) d.shape r e in
         let a = given m.signature x.rest st (sym d.stack ∙ x.before) in
         let n : length a.left < 32 =
-        (let i = ap length a.kinds_left in let j = length-map kind_of a.left in let k = ap length x.after in let l = x.low in omega arith) in
-        took_fine P plans (arguments m.signature st) s _ a.args a.left a.takes_them
+        (let i = ap length a.kinds_left in let j = length-map a.left kind_of in let k = ap length x.after in let l = x.low in omega arith) in
+        found_fine P plans (arguments m.signature st) s _ _ a.takes_them
         (room_fine P plans a.left s _ n (asks m q r x hit a))
 
     -- a return to the frame that awaits it, or the end of main
@@ -230,10 +228,10 @@ module _ (P : Program) (plans : Plans) (ok : Accepted P plans) where
           where
             last : (v : Value) → kind_of v ≡ Word → Fine P plans (return v [] h s)
             last (word n) e = tt
-            last (reference r) e = absurd (let z : ◌≡◌ {A = ℕ} 0 1 = cc in let b : ⊥ = omega arith in b)
+            last (reference r) e = cc
         go g fs (more {f = g'} {p = p'} {vs = us} {st = t} {rest = fs'} w ws) e =
             let sz = ((good_plan g' w.self w.known).sized p' w.shape w.planned).low in
-            let n : length t < 32 = (let i = ap length w.stack in let j = length-map kind_of t in omega arith) in
+            let n : length t < 32 = (let i = ap length w.stack in let j = length-map t kind_of in omega arith) in
             room_fine P plans t s _ n (
               record {
                 self = w.self;
@@ -250,22 +248,12 @@ module _ (P : Program) (plans : Plans) (ok : Accepted P plans) where
     abbrev V : ℕ
     V = variables_at P f
 
-    -- an index within its pool
-    inside : (c count : ℕ) (l : Kind) (r : Shape) → performed f p V d.shape (within c count (fixed [] (l ∷ []))) ≡ good r
-        → (ltb c count ≡ true) × Replaced [] (l ∷ []) d.shape r
-    inside c count l r e = go (ltb c count) refl e
-      where
-        go : (b : Bool) → ltb c count ≡ b → performed f p V d.shape (cond b (Some (fixed [] (l ∷ []))) None) ≡ good r
-            → (ltb c count ≡ true) × Replaced [] (l ∷ []) d.shape r
-        go false q h = absurd (let z : ◌≡◌ {A = ℕ} 0 1 = cc in let b : ⊥ = omega arith in b)
-        go true q h = (q, replaced f p V [] (l ∷ []) d.shape r h)
-
     -- a load of a variable of a known kind
     loading : (i q : ℕ) (r : Shape) → perform f p V (Rattle.plan.specs.Effects.load i) d.shape ≡ good r → Hits r (plans f q)
         → Fine P plans (found (variable vs i) s (λ v. room_for st s (resume f q vs (v ∷ st) rest h s)))
     loading i q r e hit =
         let x = loads f p V i d.shape r e in
-        let v = held_value x.kind (variable vs i) x.known (subst (λ k. Held k (variable vs i)) x.there (d.holding i)) in
+        let v = held_value x.kind (variable vs i) (subst (λ k. Held k (variable vs i)) x.there (d.holding i)) in
         found_fine P plans (variable vs i) s _ v.0 v.1
         (room_fine P plans st s _ (low x.kind r x.after x.low)
         (on r q vs (v.0 ∷ st) h s hit (x.after ∙ (let b = d.stack in let c = v.2 in cc)) (subst (Holding vs) (sym x.same) d.holding) refl))
@@ -283,7 +271,7 @@ module _ (P : Program) (plans : Plans) (ok : Accepted P plans) where
         subst (λ b. Fine P plans (cond b (resume f q (set vs i (Some v)) t rest h s) (breaks s))) (sym (lt-ltb i (length vs) n))
         (on r q (set vs i (Some v)) t h s hit (sym (kinds_are kt))
         (subst (Holding (set vs i (Some v))) (sym x.after)
-        (subst (λ k. Holding (set vs i (Some v)) (set d.shape.variables i k)) kv (holding_set vs d.shape.variables i v n m d.holding)))
+        (subst (λ k. Holding (set vs i (Some v)) (set d.shape.variables i (Some k))) kv (holding_set vs d.shape.variables i v n m d.holding)))
         (length-set vs i (Some v))))
 
     comparing : (q : ℕ) (r : Shape) (o : ℤ) (turn : Bool → Bool) → perform f p V Rattle.plan.specs.Effects.alike d.shape ≡ good r
@@ -335,15 +323,15 @@ module _ (P : Program) (plans : Plans) (ok : Accepted P plans) where
         let x = replaced f p V [] (Ref ∷ []) d.shape r e in
         room_fine P plans st s _ (room_left Ref r x) (pushes Ref r (p + 1) (reference null) x refl l.0 h)
     exec_fine (Aldc c) r e l =
-        let x = inside c (length P.strings) Ref r e in
-        subst (λ b. Fine P plans (cond b (room_for st s (resume f (p + 3) vs (reference (text c) ∷ st) rest h s)) (breaks s))) (sym x.0)
+        let x = from_pool f p V c (length P.strings) Ref d.shape r e in
+        subst (λ b. Fine P plans (cond b (room_for st s (resume f (p + 3) vs (reference (text c) ∷ st) rest h s)) (breaks s))) (sym (lt-ltb c (length P.strings) x.0))
         (room_fine P plans st s _ (room_left Ref r x.1) (pushes Ref r (p + 3) (reference (text c)) x.1 refl l.0 h))
     exec_fine (Bipush b) r e l =
         let x = replaced f p V [] (Word ∷ []) d.shape r e in
         room_fine P plans st s _ (room_left Word r x) (pushes Word r (p + 2) (word (wrap b)) x refl l.0 h)
     exec_fine (Ildc c) r e l =
-        let x = inside c (length P.integers) Word r e in
-        let n = nth_some P.integers c (ltb-true c (length P.integers) x.0) in
+        let x = from_pool f p V c (length P.integers) Word d.shape r e in
+        let n = nth_some P.integers c x.0 in
         found_fine P plans (nth P.integers c) s _ n.0 n.1
         (room_fine P plans st s _ (room_left Word r x.1) (pushes Word r (p + 3) (word n.0) x.1 refl l.0 h))
     exec_fine (Vload i) r e l = loading i (p + 2) r e l.0

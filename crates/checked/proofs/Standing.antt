@@ -1,7 +1,7 @@
 -- The law over every list of requests, from what one step keeps and from the laws of runs.
-use Rattle.std.proofs.Common.{ℕ, zero, suc, ◌-◌, List, [], ◌∷◌, ◌++◌, length, replicate, None, Option, sym, refl, ap, ◌∙◌, subst}
+use Rattle.std.proofs.Common.{ℕ, zero, suc, ◌-◌, List, [], ◌∷◌, ◌++◌, length, map, replicate, Some, None, Option, sym, refl, ap, ◌∙◌, subst}
+use Rattle.std.proofs.lemmas.Option.{get_or_from_slice_get}
 use lib.ListN.{length-replicate}
-use Rattle.bytecode.specs.declared.kind.Kind.TheVariants.{Unknown}
 use Rattle.bytecode.specs.Program.{Program}
 use Rattle.host.specs.Hosts.{Host, Lawful}
 use Rattle.plan.specs.Programs.{function_at, variables_at, no_function}
@@ -12,7 +12,7 @@ use Rattle.checked.specs.Law.{Plans, Accepted, Await, Planned, Kept, KeepsLaws, 
 use Rattle.checked.specs.Sound.{Holding, Callers, main, more, Sound}
 use Rattle.checked.proofs.Running.{iterate_add, threads, twins}
 use Rattle.checked.proofs.Growing.{step_grows}
-use Rattle.checked.proofs.Pieces.{nth-get_or, nth_some, entry_holding}
+use Rattle.checked.proofs.Pieces.{nth_some, entry_holding}
 use Rattle.checked.proofs.Sounding.{Fine, fits_at, step_fine}
 
 module _ (P : Program) (plans : Plans) (ok : Accepted P plans) where
@@ -26,11 +26,11 @@ module _ (P : Program) (plans : Plans) (ok : Accepted P plans) where
   pub begins_sound : Sound P plans (begins (variables_at P 0))
   begins_sound =
       let g = nth_some P.functions 0 ok.some in
-      let e = nth-get_or P.functions 0 g.0 no_function g.1 in (
+      let e = get_or_from_slice_get P.functions 0 g.0 no_function g.1 in (
         fits_at P plans 0 0 g.0 (replicate (variables_at P 0) None) (entry_of (function_at P 0)) [] g.1
             (length-replicate {A = Option Value} (variables_at P 0) None ∙ ap (λ k. k.variables) e)
             (ok.fullest 0 ok.some).sound.begins refl
-            (subst (λ k. Holding (replicate (variables_at P 0) None) (k ++ replicate (32 - length k) Unknown)) (sym ok.plain)
+            (subst (λ k. Holding (replicate (variables_at P 0) None) (map Some k ++ replicate (32 - length k) None)) (sym ok.plain)
             (entry_holding [] (variables_at P 0) 32)),
         main,
       )

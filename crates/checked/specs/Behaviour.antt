@@ -3,8 +3,8 @@
 use Rattle.std.specs.Prelude.{◌≡◌, ℕ, cond, List, [], ◌∷◌}
 use Rattle.bytecode.specs.Program.{Program}
 use Rattle.host.specs.Hosts.{Host, Call, Lawful, fitting}
-use Rattle.checked.specs.Runs.{Status, iterate}
-use Rattle.checked.specs.Machine.{Conf, Sizes, step}
+use Rattle.checked.specs.Runs.{Next, Status, iterate}
+use Rattle.checked.specs.Machine.{Sizes, step}
 
 -- the state after a list of calls, the newest first
 abbrev pub reached : {S : Type 0} → Host S → S → List Call → S
@@ -21,10 +21,12 @@ behaviour host s =
     }
 
 module _ {S : Type 0} (host : Host S) (s : S) where
-  -- the behaviour keeps the laws, and a run with it does what a run with the host does and leads to the host's state
+  -- a machine that is told by the behaviour does what it does with the host, and leads to the host's state
+  pub record Follows {C : Type 0} (told : C → List Call → Next C (List Call)) (step : C → S → Next C S) : Type 0 where
+    pub machine : (k : ℕ) (x : Status C) (past : List Call) → (iterate told k x past).machine ≡ (iterate step k x (reached host s past)).machine
+    pub state : (k : ℕ) (x : Status C) (past : List Call) → reached host s (iterate told k x past).host ≡ (iterate step k x (reached host s past)).host
+
+  -- the behaviour keeps the laws, and a run with it does what a run with the host does
   pub record Behaves : Type 0 where
     pub lawful : Lawful (behaviour host s)
-    pub machine : (P : Program) (sizes : Sizes) (k : ℕ) (x : Status Conf) (past : List Call)
-        → (iterate (step P (behaviour host s) sizes) k x past).machine ≡ (iterate (step P host sizes) k x (reached host s past)).machine
-    pub state : (P : Program) (sizes : Sizes) (k : ℕ) (x : Status Conf) (past : List Call)
-        → reached host s (iterate (step P (behaviour host s) sizes) k x past).host ≡ (iterate (step P host sizes) k x (reached host s past)).host
+    pub follows : (P : Program) (sizes : Sizes) → Follows (step P (behaviour host s) sizes) (step P host sizes)

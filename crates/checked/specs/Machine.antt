@@ -1,8 +1,8 @@
 -- The checked machine: every value carries its kind, variables may be unset, and whatever does not fit is a broken stop.
 -- It knows nothing of plans or of how memory is laid out.
-use Rattle.std.specs.Prelude.{ℕ, suc, ◌+◌, ◌-◌, Bool, true, false, cond, not, List, [], ◌∷◌, ◌++◌, map, reverse, length, replicate, ℤ, Some, None, Option, ◌==◌, nat_le, nat_lt, slice_index_or, slice_set}
+use Rattle.std.specs.Prelude.{ℕ, suc, ◌+◌, ◌-◌, Bool, true, false, cond, not, ◌&&◌, List, [], ◌∷◌, ◌++◌, map, reverse, length, replicate, ℤ, Some, None, Option, ◌==◌, nat_le, nat_lt, slice_index_or, slice_set}
 use Rattle.bytecode.specs.declared.kind.Kind.{Kind}
-use Rattle.bytecode.specs.declared.kind.Kind.TheVariants.{Unknown, Word, Reference as Ref}
+use Rattle.bytecode.specs.declared.kind.Kind.TheVariants.{Word, Reference as Ref}
 use Rattle.bytecode.specs.declared.stop.Stop.TheVariants.{Calls, Native as NoNative, Host as ByHost}
 use Rattle.bytecode.specs.declared.instruction.Instruction.{Instruction}
 use Rattle.bytecode.specs.declared.instruction.Instruction.TheVariants.{Nop, Pop, Dup, Swap, AconstNull, Aldc, Bipush, Ildc, Vload, Vstore, Binary, IfCmpeq, IfCmpne, IfIcmp, Goto, Invokestatic, Invokenative, Return, New, Newarray, Arraylength, Aaddf, Aadds, Imload, Cmload, Amload, Imstore, Cmstore, Amstore}
@@ -10,6 +10,7 @@ use Rattle.bytecode.specs.Instructions.{size_of, decode_at, target}
 use Rattle.bytecode.specs.Program.{Program, Function, Native, Signature}
 use Rattle.bytecode.specs.Stops.{Attempt, gives, stops}
 use Rattle.plan.specs.Programs.{nth}
+use Rattle.plan.specs.Shapes.{eq_kind, eq_kinds}
 use Rattle.heap.specs.Checked.{Heap, Reference, null, text, block, new, newarray, arraylength, aaddf, aadds, imload, cmload, amload, imstore, cmstore, amstore}
 use Rattle.word.specs.Words.{compute, holds, wrap}
 use Rattle.host.specs.Hosts.{Host, Call, Text, no_text, text_at}
@@ -57,58 +58,32 @@ reserved P (frame f p vs st ∷ fs) = reserve (nth P.functions f) + reserved P f
 
 abbrev pub same_reference : Reference → Reference → Bool
 same_reference null null = true
-same_reference null (text q) = false
-same_reference null (block c u) = false
-same_reference (text p) null = false
 same_reference (text p) (text q) = p == q
-same_reference (text p) (block c u) = false
-same_reference (block b o) null = false
-same_reference (block b o) (text q) = false
-same_reference (block b o) (block c u) = cond (b == c) (o == u) false
+same_reference (block b o) (block c u) = b == c && o == u
+same_reference q r = false
 
 abbrev pub is_kind : Kind → Value → Bool
-is_kind Unknown v = false
-is_kind Word (word n) = true
-is_kind Word (reference r) = false
-is_kind Ref (word n) = false
-is_kind Ref (reference r) = true
-
-abbrev pub same_kind : Kind → Kind → Bool
-same_kind Unknown Unknown = true
-same_kind Unknown Word = false
-same_kind Unknown Ref = false
-same_kind Word Unknown = false
-same_kind Word Word = true
-same_kind Word Ref = false
-same_kind Ref Unknown = false
-same_kind Ref Word = false
-same_kind Ref Ref = true
-
-abbrev pub same_kinds : List Kind → List Kind → Bool
-same_kinds [] [] = true
-same_kinds [] (l ∷ ls) = false
-same_kinds (k ∷ ks) [] = false
-same_kinds (k ∷ ks) (l ∷ ls) = cond (same_kind k l) (same_kinds ks ls) false
+is_kind k v = eq_kind k (kind_of v)
 
 -- whether a host's signature is the one that the sheet gives
 abbrev pub agrees : Signature → Option Signature → Bool
 agrees g None = false
-agrees g (Some h) = cond (same_kind g.result h.result) (same_kinds g.arguments h.arguments) false
+agrees g (Some h) = eq_kind g.result h.result && eq_kinds g.arguments h.arguments
 
 -- ## Arguments
 
--- arguments taken off a stack, the first first, and the rest of the stack
-pub data Taken : Type 0 where
-  taken : List Value → List Value → Taken
-  short : Taken
+-- arguments taken off a stack, the first first, and what is left of the stack
+pub record Taken : Type 0 where
+  pub values : List Value
+  pub left : List Value
 
--- by the kinds that are wanted, the last argument's, which lies on top, first
-abbrev pub takes : List Kind → List Value → List Value → Taken
-takes [] st args = taken args st
-takes (k ∷ ks) [] args = short
-takes (k ∷ ks) (v ∷ st) args = cond (is_kind k v) (takes ks st (v ∷ args)) short
+-- by the kinds that are wanted, the last argument's, which lies on top, first; none if there are too few values or one is of another kind
+abbrev pub takes : List Kind → List Value → List Value → Option Taken
+takes [] st args = Some (record { values = args; left = st })
+takes (k ∷ ks) [] args = None
+takes (k ∷ ks) (v ∷ st) args = cond (is_kind k v) (takes ks st (v ∷ args)) None
 
-abbrev pub arguments : Signature → List Value → Taken
+abbrev pub arguments : Signature → List Value → Option Taken
 arguments g st = takes (reverse g.arguments) st []
 
 -- ## What a host is told
@@ -117,8 +92,7 @@ arguments g st = takes (reverse g.arguments) st []
 abbrev pub argument_of : Value → Argument
 argument_of (word n) = Argument.Word n
 argument_of (reference null) = Argument.Reference true
-argument_of (reference (text p)) = Argument.Reference false
-argument_of (reference (block b o)) = Argument.Reference false
+argument_of (reference r) = Argument.Reference false
 
 -- the reference arguments, the first first
 abbrev pub references : List Value → List Reference
@@ -128,9 +102,8 @@ references (reference r ∷ vs) = r ∷ references vs
 
 -- the text of a reference: other than a text has none
 abbrev pub text_of : List ℕ → Reference → Text
-text_of strings null = no_text
 text_of strings (text p) = text_at strings p
-text_of strings (block b o) = no_text
+text_of strings r = no_text
 
 abbrev pub text_in : List ℕ → Option Reference → Text
 text_in strings None = no_text
@@ -154,14 +127,12 @@ variable vs i = slice_index_or vs i None
 module _ {S : Type 0} where
   -- a word or a reference taken off the top; too few values and a wrong kind break
   abbrev pub pop_word : List Value → S → (ℕ → List Value → Next Conf S) → Next Conf S
-  pop_word [] s k = breaks s
   pop_word (word n ∷ st) s k = k n st
-  pop_word (reference r ∷ st) s k = breaks s
+  pop_word st s k = breaks s
 
   abbrev pub pop_reference : List Value → S → (Reference → List Value → Next Conf S) → Next Conf S
-  pop_reference [] s k = breaks s
-  pop_reference (word n ∷ st) s k = breaks s
   pop_reference (reference r ∷ st) s k = k r st
+  pop_reference st s k = breaks s
 
   abbrev pub pop_any : List Value → S → (Value → List Value → Next Conf S) → Next Conf S
   pop_any [] s k = breaks s
@@ -176,7 +147,7 @@ module _ {S : Type 0} where
   attempt (gives a) s k = k a
   attempt (stops e) s k = halts e s
 
-  -- an index outside a pool, an absent or unset variable, a place before the code break
+  -- an index outside a pool, an absent or unset variable, arguments that do not fit, a place before the code break
   abbrev pub found : {A : Type 0} → Option A → S → (A → Next Conf S) → Next Conf S
   found None s k = breaks s
   found (Some a) s k = k a
@@ -184,19 +155,13 @@ module _ {S : Type 0} where
   -- two values of one kind: whether they are the same
   abbrev pub compared : Value → Value → S → (Bool → Next Conf S) → Next Conf S
   compared (word x) (word y) s k = k (x == y)
-  compared (word x) (reference r) s k = breaks s
-  compared (reference q) (word y) s k = breaks s
   compared (reference q) (reference r) s k = k (same_reference q r)
-
-  abbrev pub took_arguments : Taken → S → (List Value → List Value → Next Conf S) → Next Conf S
-  took_arguments (taken args st) s k = k args st
-  took_arguments short s k = breaks s
+  compared x y s k = breaks s
 
   -- the only entry of the stack
   abbrev pub only_value : List Value → S → (Value → Next Conf S) → Next Conf S
-  only_value [] s k = breaks s
   only_value (v ∷ []) s k = k v
-  only_value (v ∷ u ∷ st) s k = breaks s
+  only_value st s k = breaks s
 
   -- the frame goes on at a place with these variables and this stack
   abbrev pub resume : ℕ → ℕ → List (Option Value) → List Value → List Frame → Heap → S → Next Conf S
@@ -215,18 +180,11 @@ module _ {S : Type 0} where
 
   -- a host's reply to a native that gives a value of kind k
   abbrev pub answered : Kind → Reply → List Reference → S → (Value → Next Conf S) → Next Conf S
-  answered Unknown (Reply.Word n) rs s k = breaks s
-  answered Unknown Reply.Null rs s k = breaks s
-  answered Unknown (Reply.Argument j) rs s k = breaks s
-  answered Unknown (Reply.Stop e) rs s k = halts (ByHost e) s
   answered Word (Reply.Word n) rs s k = k (word n)
-  answered Word Reply.Null rs s k = breaks s
-  answered Word (Reply.Argument j) rs s k = breaks s
-  answered Word (Reply.Stop e) rs s k = halts (ByHost e) s
-  answered Ref (Reply.Word n) rs s k = breaks s
   answered Ref Reply.Null rs s k = k (reference null)
   answered Ref (Reply.Argument j) rs s k = found (nth rs j) s (λ r. k (reference r))
-  answered Ref (Reply.Stop e) rs s k = halts (ByHost e) s
+  answered kind (Reply.Stop e) rs s k = halts (ByHost e) s
+  answered kind reply rs s k = breaks s
 
   module _ (P : Program) (host : Host S) (sizes : Sizes) where
     -- a call of function c that is g: stop 10 exactly when no frame is free, or what all frames and the new one reserve exceeds the slots
@@ -270,10 +228,10 @@ module _ {S : Type 0} where
         pop_word st s (λ y u. pop_word u s (λ x t. branch (holds order x y) o f p q vs t rest h s))
     exec (Goto o) f p q vs st rest h s = branch true o f p q vs st rest h s
     exec (Invokestatic c) f p q vs st rest h s =
-        found (nth P.functions c) s (λ g. took_arguments (arguments g.signature st) s (λ args t. room_for t s (enter c g args f q vs t rest h s)))
+        found (nth P.functions c) s (λ g. found (arguments g.signature st) s (λ a. room_for a.left s (enter c g a.values f q vs a.left rest h s)))
     exec (Invokenative c) f p q vs st rest h s =
-        found (nth P.natives c) s (λ n. took_arguments (arguments n.signature st) s (λ args t. room_for t s
-        (ask n args s (λ v u. resume f q vs (v ∷ t) rest h u))))
+        found (nth P.natives c) s (λ n. found (arguments n.signature st) s (λ a. room_for a.left s
+        (ask n a.values s (λ v u. resume f q vs (v ∷ a.left) rest h u))))
     exec Return f p q vs st rest h s =
         found (nth P.functions f) s (λ g. only_value st s (λ v. cond (is_kind g.signature.result v) (return v rest h s) (breaks s)))
     exec (New b) f p q vs st rest h s =

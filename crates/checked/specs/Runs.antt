@@ -3,7 +3,7 @@
 -- A machine has configurations C. A step brings it from one to the next, calling a host that has states S.
 use Rattle.std.specs.Prelude.{ℕ, zero, suc, ◌+◌, ◌-◌, List, [], ◌∷◌, Some, None, Option}
 use Rattle.bytecode.specs.declared.stop.Stop.{Stop}
-use Rattle.bytecode.specs.declared.stop.Stop.TheVariants.{Divide, Null, Bounds, Array, Text, Alignment, Mark, Length, Cells, Calls, Host as ByHost, Native}
+use Rattle.bytecode.specs.declared.stop.Stop.TheVariants.{Cells, Calls}
 use Rattle.host.specs.Hosts.{Host}
 
 -- what one step comes to: another configuration, main's word, a stop, or a broken stop; and the host's state.
@@ -41,9 +41,7 @@ module _ {C S : Type 0} where
     -- a machine that is over makes no step
     abbrev pub advance : Status C → S → Served C S
     advance (live n c) s = after n c (step c s)
-    advance (ended n w c) s = served (ended n w c) s
-    advance (stopped n e c) s = served (stopped n e c) s
-    advance (broken n c) s = served (broken n c) s
+    advance x s = served x s
 
     -- as many steps as the allowance says, or fewer where the machine is over before
     abbrev pub iterate : ℕ → Status C → S → Served C S
@@ -76,13 +74,9 @@ pub data Answer : Type 0 where
 
 -- the number and the place of each refusal
 abbrev pub refusal : Answer → Option (ℕ × ℕ × ℕ)
-refusal (continues n) = None
-refusal (ends w n) = None
-refusal (stops e f p n) = None
-refusal (breaks n) = None
 refusal over = Some (32, 0, 0)
-refusal (sees v) = None
 refusal unseen = Some (33, 0, 0)
+refusal a = None
 
 -- an answer, and the state of the host that a run brought, after it
 pub record Response (S : Type 0) : Type 0 where
@@ -116,9 +110,7 @@ module _ {C S : Type 0} (M : Machine C S) where
 
   abbrev pub ran : Host S → S → ℕ → Status C → Response S
   ran host s k (live n c) = response (tells n (iterate (M.step host) k (live n c) s).machine) (iterate (M.step host) k (live n c) s).host
-  ran host s k (ended n w c) = response over s
-  ran host s k (stopped n e c) = response over s
-  ran host s k (broken n c) = response over s
+  ran host s k x = response over s
 
   -- an ended machine has no frames
   abbrev pub looked : ℕ → Status C → Answer
@@ -170,15 +162,6 @@ threaded M host (look j ∷ ts) x s = Request.look j ∷ threaded M host ts x s
 -- ## Stops that more memory does not change
 
 abbrev pub Lasting : Stop → Type 0
-Lasting Divide = Unit {0}
-Lasting Null = Unit {0}
-Lasting Bounds = Unit {0}
-Lasting Array = Unit {0}
-Lasting Text = Unit {0}
-Lasting Alignment = Unit {0}
-Lasting Mark = Unit {0}
-Lasting Length = Unit {0}
 Lasting Cells = ⊥
 Lasting Calls = ⊥
-Lasting (ByHost fault) = Unit {0}
-Lasting Native = Unit {0}
+Lasting e = Unit {0}

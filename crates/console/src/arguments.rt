@@ -1,6 +1,9 @@
 // The arguments of the program.
+use machine::sizes::Sizes;
 use std::alloc::Global;
 use std::env::Args;
+use std::num::ParseIntError;
+use std::str::FromStr;
 
 pub const USAGE: &str =
     "usage: console SLOTS FRAMES CELLS BLOCKS drive|line:BYTES run:ALLOWANCE|look:FRAME..";
@@ -22,57 +25,71 @@ pub enum Request {
 /// The sizes of memory, the host and the calls.
 #[derive(Drop)]
 pub struct Asked {
-    pub slots: usize,
-    pub frames: usize,
-    pub cells: usize,
-    pub records: usize,
+    pub sizes: Sizes,
     pub host: Chosen,
     pub requests: Vec<Request>,
 }
 
-fn host_of(word: &str) -> Option<Chosen> {
-    if word == "drive" {
-        return Some(Chosen::Drive);
+/// Why a word is no host and no call.
+#[derive(Clone, Copy, Debug, PartialEq, Eq)]
+pub struct Malformed;
+
+impl From<ParseIntError> for Malformed {
+    fn from(_error: ParseIntError) -> Malformed {
+        Malformed
     }
-    let size = word.strip_prefix("line:")?.parse::<usize>().ok()?;
-    Some(Chosen::Line(size))
 }
 
-fn request_of(word: &str) -> Option<Request> {
-    if let Some(allowance) = word.strip_prefix("run:") {
-        return Some(Request::Run(allowance.parse::<u32>().ok()?));
+impl FromStr for Chosen {
+    type Err = Malformed;
+
+    fn from_str(word: &str) -> Result<Chosen, Malformed> {
+        if word == "drive" {
+            return Ok(Chosen::Drive);
+        }
+        let size = word.strip_prefix("line:").ok_or(Malformed)?;
+        Ok(Chosen::Line(size.parse::<usize>()?))
     }
-    let frame = word.strip_prefix("look:")?.parse::<usize>().ok()?;
-    Some(Request::Look(frame))
 }
 
-fn number(words: &mut Args) -> Option<usize> {
+impl FromStr for Request {
+    type Err = Malformed;
+
+    fn from_str(word: &str) -> Result<Request, Malformed> {
+        let (call, number) = word.split_once(':').ok_or(Malformed)?;
+        match call {
+            "run" => Ok(Request::Run(number.parse::<u32>()?)),
+            "look" => Ok(Request::Look(number.parse::<usize>()?)),
+            _ => Err(Malformed),
+        }
+    }
+}
+
+// What the next word stands for.
+fn next<T: FromStr>(words: &mut Args) -> Option<T>
+where
+    T::Err: Drop,
+{
     let word = words.next()?;
-    word.as_str().parse::<usize>().ok()
-}
-
-fn requests_of(heap: Global, words: Args) -> Option<Vec<Request>> {
-    let mut requests = Vec::new(heap);
-    for word in words {
-        requests.push(request_of(word.as_str())?).ok()?;
-    }
-    Some(requests)
+    word.as_str().parse::<T>().ok()
 }
 
 /// What the arguments ask for, if they are well formed. The first is the name of the program.
 pub fn read_arguments(heap: Global, mut words: Args) -> Option<Asked> {
     let _ = words.next()?;
-    let slots = number(&mut words)?;
-    let frames = number(&mut words)?;
-    let cells = number(&mut words)?;
-    let records = number(&mut words)?;
-    let host = host_of(words.next()?.as_str())?;
-    let requests = requests_of(heap, words)?;
+    let sizes = Sizes {
+        slots: next(&mut words)?,
+        frames: next(&mut words)?,
+        cells: next(&mut words)?,
+        records: next(&mut words)?,
+    };
+    let host = next::<Chosen>(&mut words)?;
+    let mut requests = Vec::new(heap);
+    for word in words {
+        requests.push(word.as_str().parse::<Request>().ok()?).ok()?;
+    }
     Some(Asked {
-        slots,
-        frames,
-        cells,
-        records,
+        sizes,
         host,
         requests,
     })

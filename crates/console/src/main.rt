@@ -5,31 +5,23 @@
 ghost use Rattle.verifier.specs.Checking.{Checked};
 
 use arguments::{Asked, Chosen, USAGE, read_arguments};
+use bytecode::refusal::Report;
+use execution::Lent;
 use heap::{BlockRecord, Cell};
 use host::drive::Drive;
 use host::line::Line;
+use intake::{Failure, RECORDS, read_hex};
 use machine::Machine;
 use machine::sizes::allows;
 use play::play;
 use runtime::FrameRecord;
 use shapes::table::blank_record;
-use source::hex::HexText;
-use source::loader::{LIMIT, load};
-use std::io::Read;
 use std::process::ExitCode;
 use std::{env, io};
 use verifier::program::{Program, check};
 
 mod arguments;
 mod play;
-
-// A record for each byte of code that a package can have.
-const RECORDS: usize = 4096;
-
-fn refused(rt: &HostRuntime, shown: (u8, usize, usize)) -> io::Result<()> {
-    let (number, first, second) = shown;
-    println!(rt; "refused {number} {first} {second}")
-}
 
 // The words of the drive host, signed.
 fn show_drive(rt: &HostRuntime, drive: &Drive) -> io::Result<()> {
@@ -53,66 +45,47 @@ fn show_line(rt: &HostRuntime, line: &Line<'_>) -> io::Result<()> {
 }
 
 // Starts an accepted program, and makes the calls with the host that was chosen.
-fn start(rt: &HostRuntime, program: Program<'_>, asked: &Asked) -> io::Result<()>
+fn start(rt: &HostRuntime, program: Program<'_>, asked: &Asked) -> Result<(), Failure>
     requires { Checked program }
 {
-    if let Err(_) = allows(
-        &program,
-        asked.slots,
-        asked.frames,
-        asked.cells,
-        asked.records,
-    ) {
-        return refused(rt, (30, 0, 0));
+    let sizes = asked.sizes;
+    if let Err(refused) = allows(&program, sizes) {
+        return Err(Failure::Refused(Report::from(refused)));
     }
-    let mut slots = vec![in rt.alloc(); 0u64; asked.slots]?;
-    let mut frames = vec![in rt.alloc(); FrameRecord {
-        function: 0,
-        place: 0,
-        base: 0
-    }; asked.frames]?;
-    let mut cells = vec![in rt.alloc(); Cell {
-        bytes: [0; 8],
-        mark: false
-    }; asked.cells]?;
-    let mut records = vec![in rt.alloc(); BlockRecord {
-        start: 0,
-        from: 0,
-        end: 0,
-        count: 0,
-        size: 0
-    }; asked.records]?;
-    let mut machine = Machine::start(program, &mut slots, &mut frames, &mut cells, &mut records);
+    let mut slots = vec![in rt.alloc(); 0u64; sizes.slots]?;
+    let mut frames = vec![in rt.alloc(); FrameRecord::default(); sizes.frames]?;
+    let mut cells = vec![in rt.alloc(); Cell::default(); sizes.cells]?;
+    let mut records = vec![in rt.alloc(); BlockRecord::default(); sizes.records]?;
+    let memory = Lent {
+        slots: &mut slots,
+        frames: &mut frames,
+        cells: &mut cells,
+        records: &mut records,
+    };
+    let mut machine = Machine::start(program, memory);
     println!(rt; "started")?;
     match asked.host {
         Chosen::Drive => {
             let mut drive = Drive::new();
             play(rt, &mut machine, &mut drive, &asked.requests)?;
-            show_drive(rt, &drive)
+            show_drive(rt, &drive)?;
         }
         Chosen::Line(size) => {
             let mut room = vec![in rt.alloc(); 0u8; size]?;
             let mut line = Line::new(&mut room);
             play(rt, &mut machine, &mut line, &asked.requests)?;
-            show_line(rt, &line)
+            show_line(rt, &line)?;
         }
     }
+    Ok(())
 }
 
 // Loads and checks the text on standard input, and starts what is accepted.
-fn load_and_start(rt: &HostRuntime, asked: &Asked) -> io::Result<()> {
-    let mut text = Vec::new(rt.alloc());
-    rt.stdin().read_to_end(&mut text)?;
-    let mut buffer = vec![in rt.alloc(); 0u8; LIMIT]?;
-    match load(&mut HexText::new(&text), &mut buffer) {
-        Ok(count) => buffer.truncate(count),
-        Err(fault) => return refused(rt, fault.shown()),
-    }
+fn load_and_start(rt: &HostRuntime, asked: &Asked) -> Result<(), Failure> {
+    let bytes = read_hex(rt)?;
     let mut table = vec![in rt.alloc(); blank_record(); RECORDS]?;
-    match check(&buffer, &mut table) {
-        Ok(accepted) => start(rt, accepted.program, asked),
-        Err(refusal) => refused(rt, refusal.shown()),
-    }
+    let accepted = check(&bytes, &mut table)?;
+    start(rt, accepted.program, asked)
 }
 
 fn main(rt: HostRuntime) -> io::Result<ExitCode> {
@@ -120,6 +93,6 @@ fn main(rt: HostRuntime) -> io::Result<ExitCode> {
         eprintln!(rt; "{USAGE}")?;
         return Ok(ExitCode::FAILURE);
     };
-    load_and_start(&rt, &asked)?;
+    load_and_start(&rt, &asked).or_else(|failure| failure.print(&rt))?;
     Ok(ExitCode::SUCCESS)
 }

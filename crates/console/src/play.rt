@@ -1,28 +1,9 @@
 // Calls on a machine, each with a line of what it answers.
-ghost use Rattle.machine.specs.View.{Intact};
-
 use crate::arguments::Request;
+use bytecode::refusal::Report;
 use host::Host;
-use machine::stops::{stop_code, stop_number};
-use machine::{Machine, Outcome};
+use machine::Machine;
 use std::io;
-
-fn show(rt: &HostRuntime, outcome: Outcome) -> io::Result<()> {
-    match outcome {
-        Outcome::Continues { steps } => println!(rt; "continues {steps}"),
-        Outcome::Ended { word, steps } => println!(rt; "ended {} {steps}", word.cast_signed()),
-        Outcome::Stopped {
-            stop,
-            function,
-            place,
-            steps,
-        } => {
-            let number = stop_number(stop);
-            let code = stop_code(stop);
-            println!(rt; "stopped {number} {code} {function} {place} {steps}")
-        }
-    }
-}
 
 // Makes a call.
 fn answer<H: Host>(
@@ -30,20 +11,18 @@ fn answer<H: Host>(
     machine: &mut Machine<'_, '_>,
     host: &mut H,
     request: Request,
-) -> io::Result<()>
-    requires { Intact machine.old }
-    ensures { Intact machine.new }
-{
-    match request {
+) -> io::Result<()> {
+    let refused = match request {
         Request::Run(allowance) => match machine.run(host, allowance) {
-            Ok(outcome) => show(rt, outcome),
-            Err(_) => println!(rt; "refused 32 0 0"),
+            Ok(outcome) => return println!(rt; "{outcome}"),
+            Err(over) => Report::from(over),
         },
         Request::Look(frame) => match machine.look(frame) {
-            Ok(view) => println!(rt; "frame {} {} {}", view.function, view.place, view.depth),
-            Err(_) => println!(rt; "refused 33 0 0"),
+            Ok(view) => return println!(rt; "{view}"),
+            Err(no_frame) => Report::from(no_frame),
         },
-    }
+    };
+    println!(rt; "refused {refused}")
 }
 
 /// Makes the calls in their order.
@@ -52,9 +31,7 @@ pub fn play<H: Host>(
     machine: &mut Machine<'_, '_>,
     host: &mut H,
     requests: &[Request],
-) -> io::Result<()>
-    requires { Intact machine.old }
-{
+) -> io::Result<()> {
     for request in requests {
         answer(rt, machine, host, *request)?;
     }

@@ -1,15 +1,13 @@
 // Calls and returns of functions.
-ghost use Rattle.std.specs.Prelude.{◌≡◌, ◌+◌, ◌-◌, ◌^◌, ◌<◌, ◌≤◌, length, Some};
-ghost use Rattle.bytecode.specs.Program.{Function as Called};
-ghost use Rattle.runtime.specs.Runtime.{slot as slot_in, called, returned};
+ghost use Rattle.std.specs.Prelude.{◌≡◌, ◌+◌, ◌<◌, ◌≤◌, length, Ok};
+ghost use Rattle.runtime.specs.Runtime.{called, returned};
 ghost use Rattle.bytecode.specs.declared.instruction.Instruction.TheVariants.{Return};
 ghost use Rattle.plan.specs.Programs.{nth, function_at};
-ghost use Rattle.reader.specs.View.{program_of, Fitting};
+ghost use Rattle.reader.specs.View.{program_of};
 ghost use Rattle.ready.specs.Ready.{Bounds, Safe};
-ghost use Rattle.execution.specs.View.{state_of, comes, Still};
+ghost use Rattle.execution.specs.View.{state_of, going, Comes};
 
-use crate::values::word;
-use crate::{Execution, Flow};
+use crate::Execution;
 use bytecode::stop::Stop;
 use reader::package::Package;
 use runtime::FrameRecord;
@@ -26,83 +24,58 @@ pub fn reserve(variables: usize) -> usize
 }
 
 impl<'a> Execution<'a> {
-    pub(crate) fn invoke(&mut self, program: &Package<'_>, function: usize, next: usize) -> Flow
-        requires fitting { Fitting program.now }
+    // A call of a function. The arguments stay where they are, and become its first variables.
+    pub(crate) fn invoke(
+        &mut self,
+        program: &Package<'_>,
+        function: usize,
+        next: usize,
+    ) -> Result<(), Stop>
         requires bounds { Bounds (state_of self.old) }
         requires there { function < length (program_of program.now).functions }
         requires given { length (function_at (program_of program.now) function).signature.arguments ≤ (state_of self.old).top }
-        ensures met { comes result (state_of self.new) ≡ called (state_of self.old) next function (nth (program_of program.now).functions function) }
-        ensures still { Still result (state_of self.old) (state_of self.new) }
-    {
-        let arguments = program.argument_count(function);
-        let variables = program.variables(function);
-        self.call(function, arguments, variables, next)
-    }
-
-    pub(crate) fn leave(&mut self, program: &Package<'_>) -> Flow
-        requires fitting { Fitting program.now }
-        requires bounds { Bounds (state_of self.old) }
-        requires safe { Safe (program_of program.now) Return (state_of self.old) }
-        ensures met { comes result (state_of self.new) ≡ returned (state_of self.old) (nth (program_of program.now).functions (state_of self.old).function) }
-        ensures still { Still result (state_of self.old) (state_of self.new) }
-    {
-        let variables = program.variables(self.function);
-        self.give(variables)
-    }
-
-    // A call of a function with so many arguments and variables. The arguments stay where they are, and become its first variables.
-    fn call(&mut self, function: usize, arguments: usize, variables: usize, next: usize) -> Flow
-        requires bounds { Bounds (state_of self.old) }
-        requires given { arguments ≤ (state_of self.old).top }
-        requires few { variables ≤ 32 }
-        ensures met { (g : Called) → length g.signature.arguments ≡ arguments → g.variables ≡ variables → comes result (state_of self.new) ≡ called (state_of self.old) next function (Some g) }
-        ensures still { Still result (state_of self.old) (state_of self.new) }
+        ensures { let l = state_of self.old in Comes (going result) l (state_of self.new) (called l next function (nth (program_of program.now).functions function)) }
     {
         if self.frames.left() <= 1 {
-            return Flow::Stops(Stop::Calls);
+            return Err(Stop::Calls);
         }
+        let variables = program.variables(function);
         let reserved = reserve(variables) + self.reserved;
-        let top = self.slots.len();
+        let top = self.top();
         if top + self.slots.left() < reserved {
-            return Flow::Stops(Stop::Calls);
+            return Err(Stop::Calls);
         }
-        let base = top - arguments;
+        let base = top - program.signature(function).argument_count();
         self.frames.push_within(FrameRecord {
-            function: self.function,
             place: next,
-            base: self.base,
+            ..self.frame
         });
         self.slots.resize(base + variables);
-        self.function = function;
-        self.place = 0;
-        self.base = base;
+        self.frame = FrameRecord {
+            function,
+            place: 0,
+            base,
+        };
         self.reserved = reserved;
-        Flow::Goes
+        Ok(())
     }
 
-    // A return from a function with so many variables: the value on top goes to the calling frame, or is main's word.
-    fn give(&mut self, variables: usize) -> Flow
+    // A return: the value on top goes to the calling frame, or is main's word.
+    pub(crate) fn leave(&mut self, program: &Package<'_>) -> Option<u32>
         requires bounds { Bounds (state_of self.old) }
-        requires some { 1 ≤ (state_of self.old).top }
-        requires base { (state_of self.old).base < length (state_of self.old).slots }
-        requires few { variables ≤ 32 }
-        requires reserves { variables + 32 ≤ (state_of self.old).reserved }
-        requires word { (state_of self.old).callers ≡ 0 → slot_in (state_of self.old) ((state_of self.old).top - 1) < 2 ^ 32 }
-        ensures met { (g : Called) → g.variables ≡ variables → comes result (state_of self.new) ≡ returned (state_of self.old) (Some g) }
-        ensures still { Still result (state_of self.old) (state_of self.new) }
+        requires safe { Safe (program_of program.now) Return (state_of self.old) }
+        ensures { let l = state_of self.old in Comes (Ok result) l (state_of self.new) (returned l (nth (program_of program.now).functions l.function)) }
     {
-        let top = self.slots.len();
-        let value = self.slots.at(top - 1);
-        if self.frames.len() == 0 {
-            return Flow::Ends(word(value));
+        let top = self.top();
+        if self.callers() == 0 {
+            return Some(self.word(top - 1));
         }
-        let caller = self.frames.pop_within();
-        self.slots.put(self.base, value);
-        self.slots.resize(self.base + 1);
-        self.function = caller.function;
-        self.place = caller.place;
-        self.base = caller.base;
+        let variables = program.variables(self.frame.function);
+        let value = self.slot(top - 1);
+        self.slots.put(self.frame.base, value);
+        self.slots.resize(self.frame.base + 1);
+        self.frame = self.frames.pop_within();
         self.reserved -= reserve(variables);
-        Flow::Goes
+        None
     }
 }

@@ -12,39 +12,36 @@ mod look;
 mod values;
 
 use crate::calls::reserve;
-use bytecode::stop::Stop;
 use cells::memory::Memory;
 use heap::{BlockRecord, Cell};
 use runtime::FrameRecord;
 use stack::Stack;
+use std::fmt;
 
-/// Where a program is, and what it has. The newest frame's variables lie in the slots from `base` on, and its operand stack
+/// Where a program is, and what it has. The newest frame's variables lie in the slots from its base on, and its operand stack
 /// behind them, up to the top of `slots`. The calling frames have records. `reserved` counts the slots that all frames reserve.
+// No ghost field: `Bounds` holds in every state that an accepted program comes to, and not after any one method. Clauses ask for it.
 #[derive(Drop)]
 pub struct Execution<'a> {
-    function: usize,
-    place: usize,
-    base: usize,
+    frame: FrameRecord,
     slots: Stack<'a, u64>,
     frames: Stack<'a, FrameRecord>,
     reserved: usize,
     memory: Memory<'a>,
 }
 
-/// What an instruction comes to: the execution goes on, ends with main's word, or stops.
-#[derive(Clone, Copy)]
-pub enum Flow {
-    Goes,
-    Ends(u32),
-    Stops(Stop),
-}
-
 /// What a frame shows: its function, its place and how many values its operand stack has.
-#[derive(Clone, Copy)]
+#[derive(Clone, Copy, Debug, PartialEq, Eq)]
 pub struct FrameView {
     pub function: usize,
     pub place: usize,
     pub depth: usize,
+}
+
+impl fmt::Display for FrameView {
+    fn fmt<W: fmt::Write>(&self, f: &mut fmt::Formatter<W>) -> fmt::Result {
+        write!(f, "frame {} {} {}", self.function, self.place, self.depth)
+    }
 }
 
 /// The lent memory of an execution.
@@ -58,29 +55,26 @@ pub struct Lent<'a> {
 
 impl<'a> Execution<'a> {
     /// Main's frame alone, at place 0 with an empty stack, and no block.
-    pub fn new(
-        variables: usize,
-        slots: &'a mut [u64],
-        frames: &'a mut [FrameRecord],
-        cells: &'a mut [Cell],
-        records: &'a mut [BlockRecord],
-    ) -> Execution<'a>
+    pub fn new(variables: usize, memory: Lent<'a>) -> Execution<'a>
         requires few { variables ≤ 32 }
-        requires room { variables + 32 ≤ length slots.old }
-        requires cells { (length cells.old < 2 ^ 28) × (length records.old < 2 ^ 31) }
-        ensures { state_of result ≡ beginning variables slots.old frames.old cells.old records.old }
+        requires room { variables + 32 ≤ length memory.slots.now }
+        requires cells { (length memory.cells.now < 2 ^ 28) × (length memory.records.now < 2 ^ 31) }
+        ensures { state_of result ≡ beginning variables memory.entry }
     {
-        let memory = Memory::over(cells, records);
+        let Lent {
+            slots,
+            frames,
+            cells,
+            records,
+        } = memory;
         let mut slots = Stack::new(slots);
         slots.resize(variables);
         Execution {
-            function: 0,
-            place: 0,
-            base: 0,
+            frame: FrameRecord::default(),
             slots,
             frames: Stack::new(frames),
             reserved: reserve(variables),
-            memory,
+            memory: Memory::over(cells, records),
         }
     }
 
@@ -88,14 +82,14 @@ impl<'a> Execution<'a> {
     pub fn function(&self) -> usize
         ensures { result ≡ (state_of self.now).function }
     {
-        self.function
+        self.frame.function
     }
 
     /// The newest frame's place.
     pub fn place(&self) -> usize
         ensures { result ≡ (state_of self.now).place }
     {
-        self.place
+        self.frame.place
     }
 
     /// How many slots are in use.
@@ -123,20 +117,13 @@ impl<'a> Execution<'a> {
         ensures records { result.records.now ≡ (state_of self.entry).storage.records }
     {
         let Execution {
-            function: _,
-            place: _,
-            base: _,
+            frame: _,
             slots,
             frames,
             reserved: _,
             memory,
         } = self;
-        let Memory {
-            cells,
-            used: _,
-            records,
-            count: _,
-        } = memory;
+        let (cells, records) = memory.end();
         Lent {
             slots: slots.end(),
             frames: frames.end(),

@@ -5,7 +5,8 @@ ghost use Rattle.std.specs.Prelude.{◌≡◌, true};
 ghost use Rattle.heap.specs.Stands.{Stands};
 
 /// Eight bytes of memory. A marked cell holds the number of a reference.
-#[derive(Clone, Copy)]
+// The mark stands beside the bytes, as a cell is defined: an enum would hold the same eight bytes in each variant.
+#[derive(Clone, Copy, Default, PartialEq, Eq)]
 pub struct Cell {
     pub bytes: [u8; 8],
     pub mark: bool,
@@ -13,7 +14,8 @@ pub struct Cell {
 
 /// Where a block lies: its first cell, and where its data begin and end, in bytes from there.
 /// An array's data begin at 8, and it has `count` elements of `size` bytes. Other blocks have data from 0, and count 0.
-#[derive(Clone, Copy)]
+// Both sorts have one form: an access is tested against `from` and `end` alike, without a question of which sort it is.
+#[derive(Clone, Copy, Default, PartialEq, Eq)]
 pub struct BlockRecord {
     pub start: u32,
     pub from: u32,

@@ -1,39 +1,26 @@
--- A search for the first 00: the bytes passed, and then the text of the rest, are the text.
-use Rattle.std.proofs.Common.{◌≡◌, ℕ, suc, ◌+◌, ◌-◌, ◌<◌, ◌≤◌, cond, List, [], ◌∷◌, ◌++◌, length, get_or, take, drop, sym, ap, ◌∙◌, append_assoc, append-nil, add-one, arith, drop_of_length-le, drop-cons, eq-eqb, ne_eqb}
-use Rattle.std.proofs.lemmas.List.{take_more}
-use Rattle.std.specs.List.{between}
+-- A search for the first 00 finds where a text ends.
+use Rattle.std.proofs.Common.{◌≡◌, ℕ, ◌≤◌, Bool, true, false, cond, List, length, take, ◌==◌, nat_lt, Some, None, Option, refl, ap, ◌∙◌, arith}
+use borrow.Author.Tests.{ltb-false}
+use Rattle.std.specs.Option.{unwrap_or}
+use Rattle.std.specs.List.{position_or_len, slice_range}
+use Rattle.std.proofs.lemmas.List.Sums.{prefix_len-le-length}
 use Rattle.std.proofs.lemmas.Slice.{between_to_end}
-use Rattle.host.specs.Hosts.{Text, no_text, text_at, until_zero}
+use Rattle.host.specs.Hosts.{Text, text_at}
 
-at_zero : (xs : List ℕ) (i : ℕ) → i < length xs → get_or xs i 0 ≡ 0 → until_zero (drop i xs) ≡ []
-at_zero xs i h z =
-    ap until_zero (drop-cons xs i 0 h) ∙ ap (λ b. cond b [] (get_or xs i 0 ∷ until_zero (drop (suc i) xs))) (eq-eqb (get_or xs i 0) 0 z)
+abbrev pub end : List ℕ → ℕ
+end bytes = position_or_len (λ b. b == 0) bytes
 
-past_byte : (xs : List ℕ) (i : ℕ) → i < length xs → (get_or xs i 0 ≡ 0 → ⊥) → until_zero (drop i xs) ≡ get_or xs i 0 ∷ until_zero (drop (i + 1) xs)
-past_byte xs i h ne =
-    ap until_zero (drop-cons xs i 0 h) ∙ ap (λ b. cond b [] (get_or xs i 0 ∷ until_zero (drop (suc i) xs))) (ne_eqb (get_or xs i 0) 0 ne)
-    ∙ ap (λ j. get_or xs i 0 ∷ until_zero (drop j xs)) (sym (add-one i))
-
-pub found_zero : (xs : List ℕ) (i : ℕ) → i < length xs → until_zero xs ≡ take i xs ++ until_zero (drop i xs) → get_or xs i 0 ≡ 0 → take i xs ≡ until_zero xs
-found_zero xs i h inv z = sym (inv ∙ ap (λ r. take i xs ++ r) (at_zero xs i h z) ∙ append-nil (take i xs))
-
-pub one_further : (xs : List ℕ) (i : ℕ) → i < length xs → until_zero xs ≡ take i xs ++ until_zero (drop i xs) → (get_or xs i 0 ≡ 0 → ⊥) →
-    until_zero xs ≡ take (i + 1) xs ++ until_zero (drop (i + 1) xs)
-one_further xs i h inv ne =
-    inv ∙ ap (λ r. take i xs ++ r) (past_byte xs i h ne) ∙ sym (append_assoc (take i xs) (get_or xs i 0 ∷ []) (until_zero (drop (i + 1) xs)))
-    ∙ ap (λ f. f ++ until_zero (drop (i + 1) xs)) (sym (take_more xs i 0 h))
-
-pub none_found : (xs : List ℕ) (i : ℕ) → length xs ≤ i → until_zero xs ≡ take i xs ++ until_zero (drop i xs) → take i xs ≡ until_zero xs
-none_found xs i h inv = sym (inv ∙ ap (λ r. take i xs ++ until_zero r) (drop_of_length-le xs h) ∙ append-nil (take i xs))
+size_is : (b : Bool) (n len size : ℕ) (found : Option ℕ) → nat_lt n len ≡ b → n ≤ len → found ≡ cond b (Some n) None → size ≡ unwrap_or found len → size ≡ n
+size_is true n len size found e le f u = cc
+size_is false n len size found e le f u = let all : len ≤ n = ltb-false n len e in let s : size ≡ len = cc in omega arith
 
 abbrev told : List ℕ → Text
 told bytes = record { bytes = bytes }
 
-pub text_in-rest : (xs : List ℕ) (p size : ℕ) → take size (between p (length xs) xs) ≡ until_zero (between p (length xs) xs) →
-    record { bytes = take (size - 0) (drop 0 (between p (length xs) xs)) } ≡ text_at xs p
-text_in-rest xs p size e =
-    let s : size - 0 ≡ size = omega arith in
-    ap told (ap (λ n. take n (between p (length xs) xs)) s ∙ e ∙ ap until_zero (between_to_end xs p (length xs) (omega arith)))
-
-pub no_text_past : (xs : List ℕ) (p : ℕ) → length xs ≤ p → no_text ≡ text_at xs p
-no_text_past xs p h = ap (λ bytes. told (until_zero bytes)) (sym (drop_of_length-le xs h))
+pub text_found : (strings rest : List ℕ) (position size : ℕ) (found : Option ℕ) → rest ≡ slice_range strings position (length strings) →
+    found ≡ cond (nat_lt (end rest) (length rest)) (Some (end rest)) None → size ≡ unwrap_or found (length rest) →
+    record { bytes = take size rest } ≡ text_at strings position
+text_found strings rest position size found r f u =
+    let whole = r ∙ between_to_end strings position (length strings) (omega arith) in
+    let s = size_is (nat_lt (end rest) (length rest)) (end rest) (length rest) size found refl (prefix_len-le-length _ rest) f u in
+    ap told (ap (λ n. take n rest) s ∙ ap (λ bytes. take (end bytes) bytes) whole)

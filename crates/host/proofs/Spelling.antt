@@ -49,3 +49,6 @@ sign_before (pos n) start out neg p h e = absurd (clash (sym neg ∙ le-leb 0 n 
 sign_before (negsuc n) start out neg p h e =
     let s : suc n ≡ n + 1 = omega arith in
     put_before start 0x2D out p h ∙ ap (λ r. 0x2D ∷ r) (e ∙ ap (tens 10) s)
+
+-- what a turn of the loop that writes digits keeps, and what it leaves
+pub ruleset spelling = (nothing_written, two_more, all_written)

@@ -10,32 +10,20 @@ takes kinds kind = Some (record { arguments = kinds; result = kind })
 
 -- the word, where there is just one argument, a word
 abbrev pub one_word : List Argument → Option ℕ
-one_word [] = None
 one_word (Argument.Word w ∷ []) = Some w
-one_word (Argument.Word w ∷ a ∷ rest) = None
-one_word (Argument.Reference null ∷ rest) = None
+one_word given = None
 
 -- the words, where there are just two arguments, both words
 abbrev pub two_words : List Argument → Option (ℕ × ℕ)
-two_words [] = None
-two_words (Argument.Reference null ∷ rest) = None
-two_words (Argument.Word v ∷ []) = None
-two_words (Argument.Word v ∷ Argument.Reference null ∷ rest) = None
 two_words (Argument.Word v ∷ Argument.Word w ∷ []) = Some (v, w)
-two_words (Argument.Word v ∷ Argument.Word w ∷ a ∷ rest) = None
+two_words given = None
 
 -- just one argument, a reference
 abbrev pub one_reference : List Argument → Bool
-one_reference [] = false
-one_reference (Argument.Word w ∷ rest) = false
 one_reference (Argument.Reference null ∷ []) = true
-one_reference (Argument.Reference null ∷ a ∷ rest) = false
+one_reference given = false
 
 -- just two arguments, both references
 abbrev pub two_references : List Argument → Bool
-two_references [] = false
-two_references (Argument.Word w ∷ rest) = false
-two_references (Argument.Reference null ∷ []) = false
-two_references (Argument.Reference null ∷ Argument.Word w ∷ rest) = false
 two_references (Argument.Reference null ∷ Argument.Reference other ∷ []) = true
-two_references (Argument.Reference null ∷ Argument.Reference other ∷ a ∷ rest) = false
+two_references given = false

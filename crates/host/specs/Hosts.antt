@@ -1,8 +1,10 @@
 -- Hosts: what a host is told at a call, what it replies, and the laws that every host keeps.
 use Rattle.std.specs.Prelude.{◌≡◌, ℕ, suc, ◌^◌, ◌<◌, Bool, true, false, cond, List, [], ◌∷◌, drop, Some, None, Option, ◌==◌}
+use Rattle.std.specs.Cmp.Lexicographic.{pointwise}
+use Rattle.std.specs.List.{before_first}
 use Rattle.bytecode.specs.Program.{Signature}
 use Rattle.bytecode.specs.declared.kind.Kind.{Kind}
-use Rattle.bytecode.specs.declared.kind.Kind.TheVariants.{Unknown, Word, Reference}
+use Rattle.bytecode.specs.declared.kind.Kind.TheVariants.{Word, Reference}
 use Rattle.bytecode.specs.declared.stop.HostFault.{HostFault}
 use Rattle.host.specs.declared.call.Argument.{Argument}
 use Rattle.host.specs.declared.call.Reply.{Reply}
@@ -17,14 +19,9 @@ pub record Text : Type 0 where
 abbrev pub no_text : Text
 no_text = record { bytes = [] }
 
--- the bytes before the first 00, or all where there is none
-abbrev pub until_zero : List ℕ → List ℕ
-until_zero [] = []
-until_zero (b ∷ bs) = cond (b == 0) [] (b ∷ until_zero bs)
-
--- the text at a position of a program's string bytes
+-- the text at a position of a program's string bytes: those from there before the first 00, or all where there is none
 abbrev pub text_at : List ℕ → ℕ → Text
-text_at strings position = record { bytes = until_zero (drop position strings) }
+text_at strings position = record { bytes = before_first (λ b. b == 0) (drop position strings) }
 
 -- ## Calls and replies
 
@@ -55,18 +52,12 @@ pub record Host (S : Type 0) : Type 0 where
 
 abbrev pub is_of : Kind → Argument → Bool
 is_of Word (Argument.Word w) = true
-is_of Word (Argument.Reference null) = false
-is_of Reference (Argument.Word w) = false
 is_of Reference (Argument.Reference null) = true
-is_of Unknown (Argument.Word w) = false
-is_of Unknown (Argument.Reference null) = false
+is_of k a = false
 
 -- as many arguments as kinds, each of its kind
 abbrev pub fits : List Kind → List Argument → Bool
-fits [] [] = true
-fits [] (a ∷ rest) = false
-fits (k ∷ ks) [] = false
-fits (k ∷ ks) (a ∷ rest) = cond (is_of k a) (fits ks rest) false
+fits = pointwise is_of
 
 -- there is a signature, and the arguments fit it
 abbrev pub fitting : Option Signature → List Argument → Bool

@@ -16,7 +16,7 @@ use Rattle.host.specs.Lines.{Line, printing, has_room, longer, line_replies, lin
 
 -- ## Arguments that do not fit are not what a host takes them apart into
 
-not_one_word : (given : List Argument) → fits (Word ∷ []) given ≡ false → one_word given ≡ None
+pub not_one_word : (given : List Argument) → fits (Word ∷ []) given ≡ false → one_word given ≡ None
 not_one_word [] e = refl
 not_one_word (Argument.Word w ∷ []) e = absurd (clash (sym e))
 not_one_word (Argument.Word w ∷ a ∷ rest) e = refl

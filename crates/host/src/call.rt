@@ -4,7 +4,7 @@ use bytecode::kind::Kind;
 use bytecode::stop::HostFault;
 
 /// An argument of a call: a word, or a reference, of which a host sees only whether it is null.
-#[derive(Clone, Copy)]
+#[derive(Clone, Copy, Debug, PartialEq, Eq)]
 pub enum Argument {
     Word(u32),
     Reference { null: bool },
@@ -21,7 +21,7 @@ pub struct Call<'a, 't> {
 }
 
 /// A host's answer to a call: a word, null, a reference argument by its number among them, or a stop.
-#[derive(Clone, Copy)]
+#[derive(Clone, Copy, Debug, PartialEq, Eq)]
 pub enum Reply {
     Word(u32),
     Null,

@@ -4,10 +4,21 @@ ghost use Rattle.host.specs.Drives.{drive_host, reading};
 ghost use Rattle.host.specs.Lawfulness.{drive_lawful};
 
 use crate::Host;
-use crate::arguments::{one_word, two_words};
-use crate::call::{Call, MISFIT, Reply, Signature};
+use crate::call::{Argument, Call, MISFIT, Reply, Signature};
 use bytecode::kind::Kind;
 use bytecode::stop::HostFault;
+
+// The native `get`: an index.
+const GET: Signature<'static> = Signature {
+    arguments: &[Kind::Word],
+    result: Kind::Word,
+};
+
+// The native `set`: an index, and a word.
+const SET: Signature<'static> = Signature {
+    arguments: &[Kind::Word, Kind::Word],
+    result: Kind::Word,
+};
 
 // The reply to an index outside 0 to 31.
 const OUTSIDE: Reply = Reply::Stop(HostFault { code: 1 });
@@ -66,28 +77,16 @@ impl Host for Drive {
 
     fn signature(&self, index: u16) -> Option<Signature<'_>> {
         match index {
-            0 => Some(Signature {
-                arguments: &[Kind::Word],
-                result: Kind::Word,
-            }),
-            1 => Some(Signature {
-                arguments: &[Kind::Word, Kind::Word],
-                result: Kind::Word,
-            }),
+            0 => Some(GET),
+            1 => Some(SET),
             _ => None,
         }
     }
 
     fn call(&mut self, call: Call<'_, '_>) -> Reply {
-        match call.index {
-            0 => match one_word(call.arguments) {
-                Some(i) => self.get(i),
-                None => MISFIT,
-            },
-            1 => match two_words(call.arguments) {
-                Some((i, word)) => self.set(i, word),
-                None => MISFIT,
-            },
+        match (call.index, call.arguments) {
+            (0, [Argument::Word(i)]) => self.get(*i),
+            (1, [Argument::Word(i), Argument::Word(word)]) => self.set(*i, *word),
             _ => MISFIT,
         }
     }

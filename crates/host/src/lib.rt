@@ -6,7 +6,6 @@ ghost use Rattle.std.specs.Option.{option_map};
 ghost use Rattle.host.specs.Hosts.{Host as Make, Lawful};
 ghost use Rattle.host.specs.View.{call_of, signature_of};
 
-mod arguments;
 pub mod call;
 pub mod drive;
 pub mod line;
@@ -26,9 +25,6 @@ pub trait Host {
 
     ghost make: { Make State };
 
-    // the make keeps the laws
-    ghost lawful: { Lawful make };
-
     /// The kinds of arguments and result for a table index. It follows from the make and the index alone.
     fn signature(&self, index: u16) -> Option<Signature<'_>>
         ensures { option_map signature_of result ≡ make.signs index };
@@ -37,4 +33,7 @@ pub trait Host {
     fn call(&mut self, call: Call<'_, '_>) -> Reply
         ensures reply { result ≡ make.replies (state self.old) (call_of call.entry) }
         ensures after { state self.new ≡ make.becomes (state self.old) (call_of call.entry) };
+
+    // the make keeps the laws
+    ghost lawful: { Lawful make };
 }

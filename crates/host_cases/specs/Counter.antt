@@ -5,8 +5,9 @@ use Rattle.bytecode.specs.Program.{Signature}
 use Rattle.bytecode.specs.declared.kind.Kind.TheVariants.{Word}
 use Rattle.host.specs.declared.call.Argument.{Argument}
 use Rattle.host.specs.declared.call.Reply.{Reply}
-use Rattle.host.specs.Hosts.{Host, Call, Lawful, Suits, fits, fitting, references, stop_with}
+use Rattle.host.specs.Hosts.{Host, Call, Lawful, Suits, fitting, references, stop_with}
 use Rattle.host.specs.Arguments.{takes, one_word}
+use Rattle.host.specs.Lawfulness.{not_one_word}
 
 -- 7 add(w) → w answers the sum so far, wrapped at 32 bits
 abbrev pub counter_signs : ℕ → Option Signature
@@ -38,12 +39,6 @@ replies_suit s (Some w) n = Suits.word (omega arith)
 gives_word : (a : Bool) (g : Signature) → cond a (takes (Word ∷ []) Word) None ≡ Some g → Word ≡ g.result
 gives_word true g e = cc
 gives_word false g e = cc
-
-not_one_word : (given : List Argument) → fits (Word ∷ []) given ≡ false → one_word given ≡ None
-not_one_word [] e = refl
-not_one_word (Argument.Word w ∷ []) e = cc
-not_one_word (Argument.Word w ∷ a ∷ rest) e = refl
-not_one_word (Argument.Reference null ∷ rest) e = refl
 
 adds_nothing : (a : Bool) (given : List Argument) → fitting (cond a (takes (Word ∷ []) Word) None) given ≡ false → cond a (one_word given) None ≡ None
 adds_nothing true given e = not_one_word given e

@@ -11,6 +11,12 @@ use host::call::{Argument, Call, MISFIT, Reply, Signature};
 #[cfg(test)]
 mod tests;
 
+// The native `add`: a word.
+const ADD: Signature<'static> = Signature {
+    arguments: &[Kind::Word],
+    result: Kind::Word,
+};
+
 /// A host that adds up the words that it is given, and answers the sum.
 #[derive(Drop)]
 pub struct Counter {
@@ -27,22 +33,12 @@ impl Host for Counter {
     ghost lawful = { counter_lawful };
 
     fn signature(&self, index: u16) -> Option<Signature<'_>> {
-        if index == 7 {
-            Some(Signature {
-                arguments: &[Kind::Word],
-                result: Kind::Word,
-            })
-        } else {
-            None
-        }
+        (index == 7).then_some(ADD)
     }
 
     fn call(&mut self, call: Call<'_, '_>) -> Reply {
-        if call.index != 7 {
-            return MISFIT;
-        }
-        match call.arguments {
-            [Argument::Word(w)] => {
+        match (call.index, call.arguments) {
+            (7, [Argument::Word(w)]) => {
                 self.sum = self.sum.wrapping_add(*w);
                 Reply::Word(self.sum)
             }

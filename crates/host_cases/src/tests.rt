@@ -1,93 +1,88 @@
 // Cases for the three hosts and for finding texts.
 use crate::Counter;
+use bytecode::stop::HostFault;
 use host::Host;
 use host::call::{Argument, Call, Reply};
 use host::drive::Drive;
 use host::line::Line;
-use host::text::{find_text, no_text};
+use host::text::{Text, find_text};
 
 const REFERENCE: Argument = Argument::Reference { null: false };
 
 const NULL: Argument = Argument::Reference { null: true };
 
-// The case of a reply, in the order of their declaration, and its number.
-fn shown(reply: Reply) -> (u8, u32) {
-    match reply {
-        Reply::Word(w) => (0, w),
-        Reply::Null => (1, 0),
-        Reply::Argument(n) => (2, n as u32),
-        Reply::Stop(fault) => (3, fault.code),
-    }
+// A stop with a code.
+fn stop(code: u32) -> Reply {
+    Reply::Stop(HostFault { code })
 }
 
 // A reply to a call without texts.
-fn ask<H: Host>(host: &mut H, index: u16, arguments: &[Argument]) -> (u8, u32) {
-    shown(host.call(Call {
+fn ask<H: Host>(host: &mut H, index: u16, arguments: &[Argument]) -> Reply {
+    host.call(Call {
         index,
         arguments,
-        first: no_text(),
-        second: no_text(),
-    }))
+        first: Text::NONE,
+        second: Text::NONE,
+    })
 }
 
-fn print(line: &mut Line<'_>, bytes: &[u8]) -> (u8, u32) {
-    shown(line.call(Call {
+fn print(line: &mut Line<'_>, bytes: &[u8]) -> Reply {
+    line.call(Call {
         index: 16,
         arguments: &[REFERENCE],
         first: find_text(bytes, 0),
-        second: no_text(),
-    }))
+        second: Text::NONE,
+    })
 }
 
-fn pick<'x>(line: &mut Line<'_>, first: &'x [u8], second: &'x [u8]) -> (u8, u32) {
-    let call = Call {
+fn pick<'x>(line: &mut Line<'_>, first: &'x [u8], second: &'x [u8]) -> Reply {
+    line.call(Call {
         index: 18,
         arguments: &[REFERENCE, NULL],
         first: find_text(first, 0),
         second: find_text(second, 0),
-    };
-    shown(line.call(call))
+    })
 }
 
-fn print_int(line: &mut Line<'_>, word: u32) -> (u8, u32) {
+fn print_int(line: &mut Line<'_>, word: u32) -> Reply {
     ask(line, 17, &[Argument::Word(word)])
 }
 
 #[test]
 fn drive_words(rt: HostRuntime) {
     let mut drive = Drive::new();
-    assert_eq!(rt; ask(&mut drive, 0, &[Argument::Word(31)]), (0, 0));
+    assert_eq!(rt; ask(&mut drive, 0, &[Argument::Word(31)]), Reply::Word(0));
     assert_eq!(rt;
         ask(&mut drive, 1, &[Argument::Word(31), Argument::Word(7)]),
-        (0, 0)
+        Reply::Word(0)
     );
     assert_eq!(rt;
         ask(&mut drive, 1, &[Argument::Word(31), Argument::Word(8)]),
-        (0, 7)
+        Reply::Word(7)
     );
-    assert_eq!(rt; ask(&mut drive, 0, &[Argument::Word(31)]), (0, 8));
+    assert_eq!(rt; ask(&mut drive, 0, &[Argument::Word(31)]), Reply::Word(8));
     assert_eq!(rt; drive.words().len(), 32);
 }
 
 #[test]
 fn drive_index_outside(rt: HostRuntime) {
     let mut drive = Drive::new();
-    assert_eq!(rt; ask(&mut drive, 0, &[Argument::Word(32)]), (3, 1));
-    assert_eq!(rt; ask(&mut drive, 0, &[Argument::Word(0xFFFF_FFFF)]), (3, 1));
+    assert_eq!(rt; ask(&mut drive, 0, &[Argument::Word(32)]), stop(1));
+    assert_eq!(rt; ask(&mut drive, 0, &[Argument::Word(0xFFFF_FFFF)]), stop(1));
     assert_eq!(rt;
         ask(&mut drive, 1, &[Argument::Word(32), Argument::Word(5)]),
-        (3, 1)
+        stop(1)
     );
 }
 
 #[test]
 fn drive_misfits(rt: HostRuntime) {
     let mut drive = Drive::new();
-    assert_eq!(rt; ask(&mut drive, 0, &[REFERENCE]), (3, 0));
-    assert_eq!(rt; ask(&mut drive, 0, &[]), (3, 0));
-    assert_eq!(rt; ask(&mut drive, 1, &[Argument::Word(0)]), (3, 0));
-    assert_eq!(rt; ask(&mut drive, 1, &[Argument::Word(0), NULL]), (3, 0));
-    assert_eq!(rt; ask(&mut drive, 2, &[Argument::Word(0)]), (3, 0));
+    assert_eq!(rt; ask(&mut drive, 0, &[REFERENCE]), stop(0));
+    assert_eq!(rt; ask(&mut drive, 0, &[]), stop(0));
+    assert_eq!(rt; ask(&mut drive, 1, &[Argument::Word(0)]), stop(0));
+    assert_eq!(rt; ask(&mut drive, 1, &[Argument::Word(0), NULL]), stop(0));
+    assert_eq!(rt; ask(&mut drive, 2, &[Argument::Word(0)]), stop(0));
     assert!(rt; drive.signature(2).is_none());
 }
 
@@ -95,12 +90,12 @@ fn drive_misfits(rt: HostRuntime) {
 fn line_print(rt: HostRuntime) {
     let mut room = [0; 5];
     let mut line = Line::new(&mut room);
-    assert_eq!(rt; print(&mut line, b"hi"), (0, 0));
-    assert_eq!(rt; print(&mut line, b"four"), (3, 3));
-    assert_eq!(rt; print(&mut line, b"abc"), (0, 0));
-    assert_eq!(rt; print(&mut line, b""), (0, 0));
-    assert_eq!(rt; print(&mut line, b"x"), (3, 3));
-    assert_eq!(rt; ask(&mut line, 16, &[NULL]), (0, 0));
+    assert_eq!(rt; print(&mut line, b"hi"), Reply::Word(0));
+    assert_eq!(rt; print(&mut line, b"four"), stop(3));
+    assert_eq!(rt; print(&mut line, b"abc"), Reply::Word(0));
+    assert_eq!(rt; print(&mut line, b""), Reply::Word(0));
+    assert_eq!(rt; print(&mut line, b"x"), stop(3));
+    assert_eq!(rt; ask(&mut line, 16, &[NULL]), Reply::Word(0));
     assert_eq!(rt; line.written(), b"hiabc".as_slice());
 }
 
@@ -108,11 +103,11 @@ fn line_print(rt: HostRuntime) {
 fn line_numbers(rt: HostRuntime) {
     let mut room = [0; 16];
     let mut line = Line::new(&mut room);
-    assert_eq!(rt; print_int(&mut line, 0x8000_0000), (0, 0));
-    assert_eq!(rt; print_int(&mut line, 0), (0, 0));
-    assert_eq!(rt; print_int(&mut line, 0xFFFF_FFF9), (0, 0));
-    assert_eq!(rt; print_int(&mut line, 1000), (3, 3));
-    assert_eq!(rt; print_int(&mut line, 90), (0, 0));
+    assert_eq!(rt; print_int(&mut line, 0x8000_0000), Reply::Word(0));
+    assert_eq!(rt; print_int(&mut line, 0), Reply::Word(0));
+    assert_eq!(rt; print_int(&mut line, 0xFFFF_FFF9), Reply::Word(0));
+    assert_eq!(rt; print_int(&mut line, 1000), stop(3));
+    assert_eq!(rt; print_int(&mut line, 90), Reply::Word(0));
     assert_eq!(rt; line.written(), b"-21474836480-790".as_slice());
 }
 
@@ -120,19 +115,19 @@ fn line_numbers(rt: HostRuntime) {
 fn line_pick(rt: HostRuntime) {
     let mut room = [0; 1];
     let mut line = Line::new(&mut room);
-    assert_eq!(rt; pick(&mut line, b"ab", b"cd"), (2, 0));
-    assert_eq!(rt; pick(&mut line, b"ab", b"cde"), (2, 1));
-    assert_eq!(rt; pick(&mut line, b"abc", b""), (2, 0));
-    assert_eq!(rt; ask(&mut line, 18, &[NULL]), (3, 0));
-    assert_eq!(rt; ask(&mut line, 17, &[NULL]), (3, 0));
+    assert_eq!(rt; pick(&mut line, b"ab", b"cd"), Reply::Argument(0));
+    assert_eq!(rt; pick(&mut line, b"ab", b"cde"), Reply::Argument(1));
+    assert_eq!(rt; pick(&mut line, b"abc", b""), Reply::Argument(0));
+    assert_eq!(rt; ask(&mut line, 18, &[NULL]), stop(0));
+    assert_eq!(rt; ask(&mut line, 17, &[NULL]), stop(0));
 }
 
 #[test]
 fn counter_adds(rt: HostRuntime) {
     let mut counter = Counter { sum: 40 };
-    assert_eq!(rt; ask(&mut counter, 7, &[Argument::Word(2)]), (0, 42));
-    assert_eq!(rt; ask(&mut counter, 7, &[NULL]), (3, 0));
-    assert_eq!(rt; ask(&mut counter, 8, &[Argument::Word(2)]), (3, 0));
+    assert_eq!(rt; ask(&mut counter, 7, &[Argument::Word(2)]), Reply::Word(42));
+    assert_eq!(rt; ask(&mut counter, 7, &[NULL]), stop(0));
+    assert_eq!(rt; ask(&mut counter, 8, &[Argument::Word(2)]), stop(0));
     assert_eq!(rt; counter.sum, 42);
 }
 

@@ -1,17 +1,16 @@
 -- Sizes that are allowed, and the state that a machine is started in: it is ready.
-use Rattle.std.proofs.Common.{◌≡◌, ℕ, zero, suc, ◌+◌, ◌<◌, ◌≤◌, true, false, ltb, leb, List, [], ◌∷◌, get_or, Some, refl, ap, subst, arith, ltb-true, lt-ltb, le-leb, leb-true}
+use Rattle.std.proofs.Common.{◌≡◌, ◌+◌, ◌<◌, ◌≤◌, true, false, ltb, leb, [], get_or, refl, ap, subst, arith, ltb-true, lt-ltb, le-leb, leb-true}
 use borrow.Author.Tests.{lt-leb}
 use Rattle.std.proofs.lemmas.Bool.{and_parts, and_from, and_right}
-use Rattle.std.specs.List.{AllByRecursion}
+use Rattle.std.proofs.lemmas.Option.{slice_get_within, get_or_from_slice_get}
+use Rattle.std.proofs.ByRecursion.{All-get_or}
 use Rattle.bytecode.specs.Program.{Function}
 use Rattle.bytecode.specs.Program as bytecode
-use Rattle.heap.specs.declared.Cell.{Cell}
-use Rattle.heap.specs.declared.BlockRecord.{BlockRecord}
 use Rattle.plan.specs.Programs.{nth, variables_at}
 use Rattle.reader.specs.declared.package.Package.{Package}
-use Rattle.reader.specs.View.{program_of, FunctionFormed, Fitting}
+use Rattle.reader.specs.View.{program_of, no_function, FunctionFormed}
+use Rattle.reader.proofs.Fits.{fitting_of}
 use Rattle.checked.specs.Machine.{Sizes, reserve}
-use Rattle.runtime.specs.declared.FrameRecord.{FrameRecord}
 use Rattle.runtime.specs.Runtime.{begins}
 use Rattle.runtime.specs.Law.{sizes_of, Enough}
 use Rattle.checked.specs.Law.{Plans}
@@ -22,7 +21,8 @@ use Rattle.law.proofs.Admitting.{small, accepted, swept}
 use Rattle.ready.specs.Ready.{Short, Ready}
 use Rattle.ready.proofs.Staying.{nth_function}
 use Rattle.ready.proofs.Beginning.{begins_ready}
-use Rattle.machine.specs.View.{lent}
+use Rattle.execution.specs.declared.Lent.{Lent}
+use Rattle.machine.specs.View.{memory_in}
 use Rattle.machine.specs.Sizes.{sizes_allowed}
 
 pub record Allowed (P : bytecode.Program) (sizes : Sizes) : Type 0 where
@@ -60,34 +60,31 @@ sizes_too_few P sizes lt =
     and_right (leb sizes.slots 8192) _ (and_right (ltb 0 sizes.frames) _ (and_right (leb sizes.frames 64) _ (and_right (leb sizes.cells 4096) _
     (and_right (leb sizes.records 1024) _ (lt-leb (reserve (nth P.functions 0)) sizes.slots lt)))))
 
-all_nth : {X : Type 0} (Q : X → Type 0) (xs : List X) (i : ℕ) (x : X) → AllByRecursion Q xs → nth xs i ≡ Some x → Q x
-all_nth Q [] i x h e = absurd (let z : ◌≡◌ {A = ℕ} 0 1 = cc in let b : ⊥ = omega arith in b)
-all_nth Q (y ∷ xs) zero x h e = let q : y ≡ x = cc in subst Q q h.0
-all_nth Q (y ∷ xs) (suc i) x h e = all_nth Q xs i x h.1 e
+pub short_codes : (p : Package) → Short (program_of p)
+short_codes p f g e =
+    let fs = (program_of p).functions in
+    (subst FunctionFormed (get_or_from_slice_get fs f g no_function e)
+    (All-get_or FunctionFormed fs f no_function (slice_get_within fs f g e) (fitting_of p).formed)).few
 
-pub short_codes : (p : Package) → Fitting p → Short (program_of p)
-short_codes p fit f g e = (all_nth FunctionFormed (program_of p).functions f g fit.formed e).few
+pub main_reserves : (p : Package) → reserve (nth (program_of p).functions 0) ≡ variables_at (program_of p) 0 + 32
+main_reserves p =
+    let h = fitting_of p in
+    ap reserve (nth_function (program_of p) 0 (let a = h.some_functions in let b = h.function_count in omega arith))
 
-pub main_reserves : (p : Package) → Fitting p → reserve (nth (program_of p).functions 0) ≡ variables_at (program_of p) 0 + 32
-main_reserves p fit = ap reserve (nth_function (program_of p) 0 (let a = fit.some_functions in let b = fit.function_count in omega arith))
-
-pub start_ready : (p : Program) → Checked p → (slots : List ℕ) (frames : List FrameRecord) (cells : List Cell) (records : List BlockRecord)
-    → Allowed (meaning_of p) (sizes_of (lent slots frames cells records))
-    → Ready (meaning_of p) (begins (meaning_of p) slots frames (lent slots frames cells records).storage)
-start_ready p h slots frames cells records fits =
-    let n = main_reserves p.contents h.fitting in
-    let plans : Plans = λ f. plan_of (get_or h.tables f []) in
-    begins_ready (meaning_of p) plans (accepted p h plans (swept p h)) slots frames (lent slots frames cells records).storage
-    (small p.contents h.fitting) (short_codes p.contents h.fitting)
-    refl refl (let z = fits.cells in omega arith) (let z = fits.records in omega arith) (let z = fits.main in omega arith) (let z = fits.slots in omega arith)
-    fits.some (let z = fits.frames in omega arith)
-
-pub start_enough : (p : Program) → Checked p → (slots : List ℕ) (frames : List FrameRecord) (cells : List Cell) (records : List BlockRecord)
-    → Allowed (meaning_of p) (sizes_of (lent slots frames cells records)) → Enough (meaning_of p) (lent slots frames cells records)
-start_enough p h slots frames cells records fits =
-    let n = main_reserves p.contents h.fitting in
+pub start_enough : (p : Program) (m : Lent) → sizes_allowed (meaning_of p) (sizes_of (memory_in m)) ≡ true → Enough (meaning_of p) (memory_in m)
+start_enough p m allowed =
+    let fits = allowed_sizes (meaning_of p) (sizes_of (memory_in m)) allowed in
+    let n = main_reserves p.contents in
     record {
       unused = record { used = refl; count = refl; cells = (let z = fits.cells in omega arith); records = (let z = fits.records in omega arith) };
       frames = fits.some;
       slots = let z = fits.main in omega arith;
     }
+
+pub start_ready : (p : Program) → Checked p → (m : Lent) → sizes_allowed (meaning_of p) (sizes_of (memory_in m)) ≡ true
+    → Ready (meaning_of p) (begins (meaning_of p) m.slots.now m.frames.now (memory_in m).storage)
+start_ready p h m allowed =
+    let fits = allowed_sizes (meaning_of p) (sizes_of (memory_in m)) allowed in
+    let plans : Plans = λ f. plan_of (get_or h.tables f []) in
+    begins_ready (meaning_of p) plans (accepted p plans (swept p h)) (memory_in m) (small p.contents) (short_codes p.contents) (start_enough p m allowed)
+    (let z = fits.slots in omega arith) (let z = fits.frames in omega arith)

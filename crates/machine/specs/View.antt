@@ -1,19 +1,18 @@
--- What a machine stands for, and what every call on it asks for and gives back.
-use Rattle.std.specs.Prelude.{ℕ, List, Some, None, Ok, Err, Option, Result}
+-- What a machine and its answers stand for.
+use Rattle.std.specs.Prelude.{ℕ, Some, None, Ok, Err, Option, Result}
 use Rattle.bytecode.specs.Outcome.{Fault}
 use Rattle.bytecode.specs.Program.{Program}
-use Rattle.heap.specs.declared.Cell.{Cell}
-use Rattle.heap.specs.declared.BlockRecord.{BlockRecord}
-use Rattle.reader.specs.View.{program_of, Fitting}
+use Rattle.reader.specs.View.{program_of}
+use Rattle.checked.specs.Machine as checked
 use Rattle.checked.specs.Runs.{Status, live, ended, stopped, Answer, continues, ends, stops, over, sees, unseen}
-use Rattle.runtime.specs.declared.FrameRecord.{FrameRecord}
 use Rattle.runtime.specs.Runtime.{State}
 use Rattle.runtime.specs.Law.{Memory}
-use Rattle.ready.specs.Ready.{Ready}
 use Rattle.execution.specs.declared.FrameView.{FrameView}
+use Rattle.execution.specs.declared.Lent.{Lent}
 use Rattle.execution.specs.View as execution
 use Rattle.execution.specs.View.{view_in}
 use Rattle.machine.specs.declared.Machine.{Machine}
+use Rattle.machine.specs.declared.sizes.Sizes.{Sizes}
 use Rattle.machine.specs.declared.Condition.{Condition}
 use Rattle.machine.specs.declared.Outcome.{Outcome}
 use Rattle.machine.specs.declared.Over.{Over}
@@ -38,16 +37,12 @@ abbrev pub status_of : ℕ → Machine → Status State
 status_of n m = status_as m.condition n (state_of m)
 
 -- memory as it is lent to a machine, none of it in use
-abbrev pub lent : List ℕ → List FrameRecord → List Cell → List BlockRecord → Memory
-lent slots frames cells records =
-    record { slots = slots; frames = frames; storage = record { cells = cells; used = 0; records = records; count = 0 } }
+abbrev pub memory_in : Lent → Memory
+memory_in m =
+    record { slots = m.slots.now; frames = m.frames.now; storage = record { cells = m.cells.now; used = 0; records = m.records.now; count = 0 } }
 
--- ## What is known of it
-
--- what every call on a machine asks for and gives back
-pub record Intact (m : Machine) : Type 0 where
-  pub fitting : Fitting m.program
-  pub ready : Ready (program_in m) (state_of m)
+abbrev pub sizes_in : Sizes → checked.Sizes
+sizes_in s = record { slots = s.slots; frames = s.frames; cells = s.cells; records = s.records }
 
 -- ## Answers
 

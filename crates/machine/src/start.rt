@@ -3,39 +3,32 @@ ghost use Rattle.std.specs.Prelude.{◌≡◌, ℕ, ◌<◌, true, List, length}
 ghost use Rattle.host.specs.Hosts.{Call};
 ghost use Rattle.plan.specs.Plans.{Fullest};
 ghost use Rattle.checked.specs.Law.{Plans};
+ghost use Rattle.ready.specs.Ready.{Ready};
 ghost use Rattle.runtime.specs.Law.{sizes_of, begun, Law};
 ghost use Rattle.verifier.specs.Checking.{Checked, meaning_of};
-ghost use Rattle.machine.specs.View.{state_of, status_of, lent, Intact};
+ghost use Rattle.machine.specs.View.{program_in, state_of, status_of, memory_in};
 ghost use Rattle.machine.specs.Sizes.{sizes_allowed};
 
+use crate::sizes::main_variables;
 use crate::{Condition, Machine};
 use execution::{Execution, Lent};
-use heap::{BlockRecord, Cell};
-use runtime::FrameRecord;
 use verifier::program::Program;
 
 impl<'p, 'm> Machine<'p, 'm> {
     /// Starts an accepted program over memory of sizes that were allowed. It cannot refuse. What the machine is owed from here on, over
     /// every list of runs and looks, is the law.
-    pub fn start(
-        program: Program<'p>,
-        slots: &'m mut [u64],
-        frames: &'m mut [FrameRecord],
-        cells: &'m mut [Cell],
-        records: &'m mut [BlockRecord],
-    ) -> Machine<'p, 'm>
+    #[tactic(auto, using(crate::proofs::Starting::start_enough))]
+    pub fn start(program: Program<'p>, memory: Lent<'m>) -> Machine<'p, 'm>
         requires checked { Checked program }
-        requires allowed { sizes_allowed (meaning_of program) (sizes_of (lent slots.old frames.old cells.old records.old)) ≡ true }
-        ensures begun { status_of 0 result ≡ begun (meaning_of program.entry) (lent slots.old frames.old cells.old records.old) }
+        requires allowed { sizes_allowed (meaning_of program) (sizes_of (memory_in memory)) ≡ true }
+        ensures begun { status_of 0 result ≡ begun (meaning_of program.entry) (memory_in memory.entry) }
         ensures program { result.program ≡ program.entry.contents }
-        ensures intact { Intact result }
-        ensures law { (plans : Plans) → ((f : ℕ) → f < length (meaning_of program.entry).functions → Fullest (meaning_of program.entry) f (plans f)) → Law (List Call) (meaning_of program.entry) plans (lent slots.old frames.old cells.old records.old) }
+        ensures ready { Ready (program_in result) (state_of result) }
+        ensures law { (plans : Plans) → ((f : ℕ) → f < length (meaning_of program.entry).functions → Fullest (meaning_of program.entry) f (plans f)) → Law (List Call) (meaning_of program.entry) plans (memory_in memory.entry) }
     {
-        let contents = *program.contents();
-        let variables = contents.variables(0);
         Machine {
-            program: contents,
-            execution: Execution::new(variables, slots, frames, cells, records),
+            program: *program.contents(),
+            execution: Execution::new(main_variables(&program), memory),
             condition: Condition::Live,
         }
     }

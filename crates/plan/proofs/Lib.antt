@@ -1,5 +1,4 @@
 pub mod Outcomes
-pub mod Indexing
 pub mod Reaching
 pub mod Acting
 pub mod Applying

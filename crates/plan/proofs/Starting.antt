@@ -3,7 +3,7 @@ use Rattle.std.proofs.Common.{◌≡◌, ℕ, zero, suc, ◌+◌, ◌<◌, ◌�
 use lib.ListN.{length-replicate}
 use Rattle.std.proofs.lemmas.Bool.{cases_eq}
 use Rattle.bytecode.specs.declared.instruction.Instruction.{Instruction}
-use Rattle.bytecode.specs.declared.instruction.Instruction.TheVariants.{Nop, Pop, Dup, Swap, AconstNull, Aldc, Bipush, Ildc, Vload, Vstore, Binary, IfCmpeq, IfCmpne, IfIcmp, Goto, Invokestatic, Invokenative, Return, New, Newarray, Arraylength, Aaddf, Aadds, Imload, Cmload, Amload, Imstore, Cmstore, Amstore}
+use Rattle.bytecode.specs.declared.instruction.Instruction.TheVariants.{Nop}
 use Rattle.bytecode.specs.Instructions.{size_of, decode_at, onward, walk, starts_of}
 use Rattle.bytecode.specs.Outcome.{good}
 use Rattle.plan.specs.Starts.{InOrder, first, after, Marked}
@@ -11,34 +11,7 @@ use Rattle.plan.proofs.Outcomes.{On}
 
 pub size_positive : (i : Instruction) → 0 < size_of i
 size_positive Nop = omega arith
-size_positive Pop = omega arith
-size_positive Dup = omega arith
-size_positive Swap = omega arith
-size_positive AconstNull = omega arith
-size_positive (Aldc c) = omega arith
-size_positive (Bipush b) = omega arith
-size_positive (Ildc c) = omega arith
-size_positive (Vload i) = omega arith
-size_positive (Vstore i) = omega arith
-size_positive (Binary operation) = omega arith
-size_positive (IfCmpeq o) = omega arith
-size_positive (IfCmpne o) = omega arith
-size_positive (IfIcmp order o) = omega arith
-size_positive (Goto o) = omega arith
-size_positive (Invokestatic c) = omega arith
-size_positive (Invokenative c) = omega arith
-size_positive Return = omega arith
-size_positive (New s) = omega arith
-size_positive (Newarray s) = omega arith
-size_positive Arraylength = omega arith
-size_positive (Aaddf offset) = omega arith
-size_positive Aadds = omega arith
-size_positive Imload = omega arith
-size_positive Cmload = omega arith
-size_positive Amload = omega arith
-size_positive Imstore = omega arith
-size_positive Cmstore = omega arith
-size_positive Amstore = omega arith
+size_positive i = omega arith
 
 -- the walk stands at p with these marks: they are starts with instructions, p is a start if it is in the code, and what follows a
 -- mark is marked, or p, or past the code

@@ -3,7 +3,7 @@ use Rattle.std.proofs.Common.{◌≡◌, ℕ, zero, suc, ◌+◌, ◌<◌, ◌�
 use lib.ListN.{length-map}
 use Rattle.bytecode.specs.Outcome.{Out, bad, good, bind}
 use Rattle.bytecode.specs.Program.{Program}
-use Rattle.plan.specs.Programs.{function_at, variables_at, WellFormed}
+use Rattle.plan.specs.Programs.{function_at, variables_at}
 use Rattle.plan.specs.Shapes.{Shape, Reach, Merged, same, changed, clash, merge, Sized}
 use Rattle.plan.specs.Plans.{Plan, starts_at, shape_at, Hits, Lands, entry_of, Good, Fullest}
 use Rattle.plan.specs.Sweep.{Cell, off, blank, marked, settled, Table, at, shape_of, plan_of, fresh, merged, join, put, spread, lowest, apply, visit, Answer, turn, run, most, sweep_within, sweep_marks}
@@ -14,7 +14,7 @@ use Rattle.plan.proofs.Weighing.{over_set, not_off_within, Unmarked, lowest_only
 
 -- ## Takes
 
-module _ (P : Program) (formed : WellFormed P) (f : ℕ) (marks : List Bool) where
+module _ (P : Program) (f : ℕ) (marks : List Bool) where
   -- what holds of the table from the first take on
   record Inv (T : Table) : Type 0 where
     sized : SizedAll (variables_at P f) T
@@ -33,13 +33,13 @@ module _ (P : Program) (formed : WellFormed P) (f : ℕ) (marks : List Bool) whe
       → On (Unit {0}) (λ U. SizedAll (variables_at P f) U × (total (variables_at P f) U < total (variables_at P f) T)) (visit P f T p s)
   unfolding visit
   visit_lighter T p s e z =
-      on_bind _ (λ r. Sized (variables_at P f) r.0) _ (apply P f p s) _ (apply_keeps P f formed p s (rw e at (z p)))
+      on_bind _ (λ r. Sized (variables_at P f) r.0) _ (apply P f p s) _ (apply_keeps P f p s (rw e at (z p)))
       (λ r h. on_map _ (λ U. Step (variables_at P f) (set T p (settled s)) U × Lands r.0 (plan_of U) r.1) _ (spread f p r.0 r.1 (set T p (settled s)))
       (λ U j. (λ q. (j.0.moves q).sized (sized q), omega (arith, total_set (variables_at P f) T p (settled s) lt, j.0.lighter, ap (weigh (variables_at P f)) e)))
       (spread_steps (variables_at P f) f p r.0 r.1 (set T p (settled s)) sized h))
     where
       lt : p < length T
-      lt = not_off_within T p (λ d. absurd (true≢false (cc)))
+      lt = not_off_within T p (λ d. cc)
 
       sized : SizedAll (variables_at P f) (set T p (settled s))
       sized = over_set (λ r d. SizedAt (variables_at P f) d) T p (settled s) (rw e at (z p)) z
@@ -47,7 +47,7 @@ module _ (P : Program) (formed : WellFormed P) (f : ℕ) (marks : List Bool) whe
   visit_inv : (T : Table) (p : ℕ) (s : Shape) → at T p ≡ marked s → Inv T
       → On (Unit {0}) (λ U. Inv U × (total (variables_at P f) U < total (variables_at P f) T)) (visit P f T p s)
   unfolding visit
-  visit_inv T p s e v = go (apply P f p s) refl (apply_keeps P f formed p s (rw e at (v.sized p)))
+  visit_inv T p s e v = go (apply P f p s) refl (apply_keeps P f p s (rw e at (v.sized p)))
     where
       V : ℕ
       V = variables_at P f
@@ -56,7 +56,7 @@ module _ (P : Program) (formed : WellFormed P) (f : ℕ) (marks : List Bool) whe
       T₁ = set T p (settled s)
 
       lt : p < length T
-      lt = not_off_within T p (λ d. absurd (true≢false (cc)))
+      lt = not_off_within T p (λ d. cc)
 
       same_plan : (q : ℕ) → Moved V (at T q) (at T₁ q)
       same_plan =
@@ -97,9 +97,9 @@ module _ (P : Program) (formed : WellFormed P) (f : ℕ) (marks : List Bool) whe
 
       go : (c : Cell) → at T (lowest T) ≡ c → ((U : Table) → Inv U → total V U ≤ k → On (Unit {0}) (Ended (suc t) U) (run P f k (suc t) U))
           → On (Unit {0}) (Ended t T) (turn P f t T (run P f k (suc t)) c)
-      go off e ih = ends (λ s d. absurd (true≢false (cc)))
-      go blank e ih = ends (λ s d. absurd (true≢false (cc)))
-      go (settled s) e ih = ends (λ t d. absurd (true≢false (cc)))
+      go off e ih = ends (λ s d. cc)
+      go blank e ih = ends (λ s d. cc)
+      go (settled s) e ih = ends (λ t d. cc)
       go (marked s) e ih =
           on_bind _ (λ U. Inv U × (total V U < total V T)) _ (visit P f T (lowest T) s) (run P f k (suc t)) (visit_inv T (lowest T) s e v)
           (λ U j. on_map _ (Ended (suc t) U) _ (run P f k (suc t) U)
@@ -257,8 +257,8 @@ below_full : (T : Table) (Q : Plan) → AllBelow T Q → (p : ℕ) (s : Shape) �
 below_full T Q b p s e = go (at T p) e (b p)
   where
     go : (c : Cell) → shape_of c ≡ Some s → Below c (Q p) → Hits s (Q p)
-    go off e h = absurd (true≢false (cc))
-    go blank e h = absurd (true≢false (cc))
+    go off e h = cc
+    go blank e h = cc
     go (marked t) e h = let d : t ≡ s = cc in rw d at h
     go (settled t) e h = let d : t ≡ s = cc in rw d at h
 
@@ -267,8 +267,8 @@ pub record Finished (marks : List Bool) (T : Table) : Type 0 where
   pub unmarked : Unmarked T
   pub size : length T ≡ length marks
 
-module _ (P : Program) (formed : WellFormed P) (f : ℕ) (marks : List Bool) (there : starts_at P f ≡ marks) where
-  inv_good : (T : Table) → Inv P formed f marks T → Unmarked T → Good P f (plan_of T)
+module _ (P : Program) (f : ℕ) (marks : List Bool) (there : starts_at P f ≡ marks) where
+  inv_good : (T : Table) → Inv P f marks T → Unmarked T → Good P f (plan_of T)
   inv_good T v n =
       record {
         begins = v.begins;
@@ -279,22 +279,22 @@ module _ (P : Program) (formed : WellFormed P) (f : ℕ) (marks : List Bool) (th
     where
       starting : (p : ℕ) (s : Shape) → shape_of (at T p) ≡ Some s → (b : Bool) → get_or marks p false ≡ b → get_or (starts_at P f) p false ≡ true
       starting p s e true h = ap (λ m. get_or m p false) there ∙ h
-      starting p s e false h = let d = v.onto p h in let g : shape_of (at T p) ≡ None = ap shape_of d in absurd (true≢false (cc))
+      starting p s e false h = let d = v.onto p h in let g : shape_of (at T p) ≡ None = ap shape_of d in cc
 
       size : (p : ℕ) (s : Shape) (c : Cell) → at T p ≡ c → shape_of c ≡ Some s → Sized (variables_at P f) s
-      size p s off e h = absurd (true≢false (cc))
-      size p s blank e h = absurd (true≢false (cc))
+      size p s off e h = cc
+      size p s blank e h = cc
       size p s (marked t) e h = let d : t ≡ s = cc in rw d at (rw e at (v.sized p))
       size p s (settled t) e h = let d : t ≡ s = cc in rw d at (rw e at (v.sized p))
 
       go : (p : ℕ) (s : Shape) (c : Cell) → at T p ≡ c → shape_of c ≡ Some s → On ⊥ (LandsIn (plan_of T)) (apply P f p s)
-      go p s off e h = absurd (true≢false (cc))
-      go p s blank e h = absurd (true≢false (cc))
+      go p s off e h = cc
+      go p s blank e h = cc
       go p s (marked t) e h = absurd (n p t e)
       go p s (settled t) e h = v.sound p s (let d : t ≡ s = cc in cc)
 
   module _ (entry : Sized (variables_at P f) (entry_of (function_at P f))) where
-    first_inv : On (Unit {0}) (λ U. Inv P formed f marks U × (total (variables_at P f) U ≤ most P f marks))
+    first_inv : On (Unit {0}) (λ U. Inv P f marks U × (total (variables_at P f) U ≤ most P f marks))
         (put f 0 (map fresh marks) (Some 0) (entry_of (function_at P f)))
     first_inv = on_map _ (λ U. Step (variables_at P f) (map fresh marks) U × Hits (entry_of (function_at P f)) (plan_of U 0)) _
         (put f 0 (map fresh marks) (Some 0) (entry_of (function_at P f)))
@@ -315,31 +315,31 @@ module _ (P : Program) (formed : WellFormed P) (f : ℕ) (marks : List Bool) (th
         sized q (inr e) = rw e tt
 
         unsettled : (p : ℕ) (s : Shape) → (at (map fresh marks) p ≡ off) ⊎ (at (map fresh marks) p ≡ blank) → at (map fresh marks) p ≡ settled s → ⊥
-        unsettled p s (inl e) d = absurd (true≢false (cc))
-        unsettled p s (inr e) d = absurd (true≢false (cc))
+        unsettled p s (inl e) d = cc
+        unsettled p s (inr e) d = cc
 
-    sweep_ends : On (Unit {0}) (λ r. Inv P formed f marks r.0 × Unmarked r.0 × (r.1 ≤ most P f marks)) (sweep_marks P f marks)
+    sweep_ends : On (Unit {0}) (λ r. Inv P f marks r.0 × Unmarked r.0 × (r.1 ≤ most P f marks)) (sweep_marks P f marks)
     unfolding sweep_within
     sweep_ends =
-        on_bind _ (λ U. Inv P formed f marks U × (total (variables_at P f) U ≤ most P f marks)) _ (put f 0 (map fresh marks) (Some 0) (entry_of (function_at P f))) _ first_inv
-        (λ U j. on_map _ (Ended P formed f marks 0 U) _ (run P f (most P f marks) 0 U)
+        on_bind _ (λ U. Inv P f marks U × (total (variables_at P f) U ≤ most P f marks)) _ (put f 0 (map fresh marks) (Some 0) (entry_of (function_at P f))) _ first_inv
+        (λ U j. on_map _ (Ended P f marks 0 U) _ (run P f (most P f marks) 0 U)
         (λ r w. (w.inv, w.unmarked, omega (arith, w.takes, j.1)))
-        (run_ends P formed f marks (most P f marks) 0 U j.0 j.1))
+        (run_ends P f marks (most P f marks) 0 U j.0 j.1))
 
     pub sweep_fuel : (k : ℕ) → most P f marks ≤ k → sweep_within P f k marks ≡ sweep_marks P f marks
     unfolding sweep_within
     sweep_fuel k l = go (put f 0 (map fresh marks) (Some 0) (entry_of (function_at P f))) first_inv
       where
-        go : (r : Out Table) → On (Unit {0}) (λ U. Inv P formed f marks U × (total (variables_at P f) U ≤ most P f marks)) r
+        go : (r : Out Table) → On (Unit {0}) (λ U. Inv P f marks U × (total (variables_at P f) U ≤ most P f marks)) r
             → bind r (run P f k 0) ≡ bind r (run P f (most P f marks) 0)
         go (bad x) h = refl
-        go (good U) h = run_fuel P formed f marks k (most P f marks) 0 U h.0.sized (omega (arith, h.1, l)) h.1
+        go (good U) h = run_fuel P f marks k (most P f marks) 0 U h.0.sized (omega (arith, h.1, l)) h.1
 
     pub sweep_fullest : On ((Q : Plan) → Good P f Q → ⊥)
         (λ r. Fullest P f (plan_of r.0) × Finished marks r.0 × (r.1 ≤ most P f marks)) (sweep_marks P f marks)
     sweep_fullest = go (sweep_marks P f marks) sweep_ends (λ Q g. sweep_below P f Q g marks there)
       where
-        go : (r : Answer) → On (Unit {0}) (λ r. Inv P formed f marks r.0 × Unmarked r.0 × (r.1 ≤ most P f marks)) r
+        go : (r : Answer) → On (Unit {0}) (λ r. Inv P f marks r.0 × Unmarked r.0 × (r.1 ≤ most P f marks)) r
             → ((Q : Plan) → Good P f Q → On ⊥ (λ r. AllBelow r.0 Q) r)
             → On ((Q : Plan) → Good P f Q → ⊥) (λ r. Fullest P f (plan_of r.0) × Finished marks r.0 × (r.1 ≤ most P f marks)) r
         go (bad x) h k = k

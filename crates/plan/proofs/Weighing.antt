@@ -1,5 +1,5 @@
 -- Tables by their cells: what is left to take in them, and what becomes of them where shapes are met.
-use Rattle.std.proofs.Common.{◌≡◌, ℕ, zero, suc, ◌+◌, ◌*◌, ◌<◌, ◌≤◌, Bool, true, false, ◌⊎◌, List, [], ◌∷◌, map, length, set, Some, None, Option, sym, refl, ap, ◌∙◌, inl, inr, true≢false, arith, length-set, get_or-set_same}
+use Rattle.std.proofs.Common.{◌≡◌, ℕ, zero, suc, ◌+◌, ◌*◌, ◌<◌, ◌≤◌, Bool, true, false, ◌⊎◌, List, [], ◌∷◌, map, length, set, Some, None, Option, sym, refl, ap, ◌∙◌, inl, inr, arith, length-set, get_or-set_same}
 use Rattle.plan.specs.Shapes.{Shape, Merged, same, changed, clash, merge, Sized}
 use Rattle.plan.specs.Plans.{shape_at, Hits, Lands}
 use Rattle.plan.specs.Sweep.{Cell, off, blank, marked, settled, Table, at, shape_of, plan_of, fresh, count_true, merged, join, put, spread, lowest}
@@ -28,10 +28,10 @@ Unmarked T = (q : ℕ) (s : Shape) → at T q ≡ marked s → ⊥
 pub lowest_only : (T : Table) → ((s : Shape) → at T (lowest T) ≡ marked s → ⊥) → Unmarked T
 unfolding lowest
 lowest_only [] h q s e = h s e
-lowest_only (off ∷ T) h zero s e = absurd (true≢false (cc))
-lowest_only (blank ∷ T) h zero s e = absurd (true≢false (cc))
+lowest_only (off ∷ T) h zero s e = cc
+lowest_only (blank ∷ T) h zero s e = cc
 lowest_only (marked t ∷ T) h zero s e = h s e
-lowest_only (settled t ∷ T) h zero s e = absurd (true≢false (cc))
+lowest_only (settled t ∷ T) h zero s e = cc
 lowest_only (off ∷ T) h (suc q) s e = lowest_only T h q s e
 lowest_only (blank ∷ T) h (suc q) s e = lowest_only T h q s e
 lowest_only (marked t ∷ T) h (suc q) s e = absurd (h t refl)
@@ -111,8 +111,8 @@ module _ (V : ℕ) (s x : Shape) (c : Cell) (is : shape_of c ≡ Some s) (cases 
       }
     where
       go : (c ≡ marked s) ⊎ (c ≡ settled s) → c ≡ off → ⊥
-      go (inl d) e = absurd (true≢false (cc))
-      go (inr d) e = absurd (true≢false (cc))
+      go (inl d) e = cc
+      go (inr d) e = cc
 
   narrowed_joined : (u : Shape) → Met s x (changed u) → Joined V c x (marked u)
   narrowed_joined u i = go cases
@@ -124,7 +124,7 @@ module _ (V : ℕ) (s x : Shape) (c : Cell) (is : shape_of c ≡ Some s) (cases 
             stays = λ t e. cc;
             lighter = omega (arith, ap (weigh V) d, i.2);
             hit = i.1;
-            inside = λ e. absurd (true≢false (cc));
+            inside = λ e. cc;
           }
       go (inr d) =
           record {
@@ -132,7 +132,7 @@ module _ (V : ℕ) (s x : Shape) (c : Cell) (is : shape_of c ≡ Some s) (cases 
             stays = λ t e. cc;
             lighter = omega (arith, ap (weigh V) d, i.2);
             hit = i.1;
-            inside = λ e. absurd (true≢false (cc));
+            inside = λ e. cc;
           }
 
   merged_joined : (f q : ℕ) (m : Merged) → Met s x m → On (Unit {0}) (Joined V c x) (merged f q c m)
@@ -149,7 +149,7 @@ joined V f p q blank x n h =
       stays = λ s e. cc;
       lighter = omega (arith, known_sized V x h);
       hit = reach_refl x;
-      inside = λ e. absurd (true≢false (cc));
+      inside = λ e. cc;
     }
 joined V f p q (marked s) x n h = merged_joined V s x (marked s) refl (inl refl) f q (merge s x) (met s x (n.long ∙ sym h.long))
 joined V f p q (settled s) x n h = merged_joined V s x (settled s) refl (inr refl) f q (merge s x) (met s x (n.long ∙ sym h.long))

@@ -1,8 +1,7 @@
 -- Plans: shapes for some places of a function's code. Which plans are good, and which is the fullest.
-use Rattle.std.specs.Prelude.{◌≡◌, ℕ, ◌+◌, ◌-◌, Bool, true, false, List, [], ◌∷◌, ◌++◌, length, replicate, Some, None, Option, slice_index_or}
-use Rattle.bytecode.specs.declared.kind.Kind.TheVariants.{Unknown}
+use Rattle.std.specs.Prelude.{◌≡◌, ℕ, ◌+◌, ◌-◌, Bool, true, false, List, [], ◌∷◌, ◌++◌, map, length, replicate, Some, None, Option, slice_index_or}
 use Rattle.bytecode.specs.declared.instruction.Instruction.{Instruction}
-use Rattle.bytecode.specs.declared.instruction.Instruction.TheVariants.{Nop, Pop, Dup, Swap, AconstNull, Aldc, Bipush, Ildc, Vload, Vstore, Binary, IfCmpeq, IfCmpne, IfIcmp, Goto, Invokestatic, Invokenative, Return, New, Newarray, Arraylength, Aaddf, Aadds, Imload, Cmload, Amload, Imstore, Cmstore, Amstore}
+use Rattle.bytecode.specs.declared.instruction.Instruction.TheVariants.{IfCmpeq, IfCmpne, IfIcmp, Goto, Return}
 use Rattle.bytecode.specs.Instructions.{size_of, decode_at, target, starts_of}
 use Rattle.bytecode.specs.Outcome.{Out, bad, good}
 use Rattle.bytecode.specs.Program.{Function, Program}
@@ -34,35 +33,12 @@ next p i = Some (p + size_of i) ∷ []
 
 -- the places that the instruction at p can go on to, the next place before a branch's target; none is a target before the code
 abbrev pub successors : ℕ → Instruction → List (Option ℕ)
-successors p Nop = next p Nop
-successors p Pop = next p Pop
-successors p Dup = next p Dup
-successors p Swap = next p Swap
-successors p AconstNull = next p AconstNull
-successors p (Aldc c) = next p (Aldc c)
-successors p (Bipush b) = next p (Bipush b)
-successors p (Ildc c) = next p (Ildc c)
-successors p (Vload i) = next p (Vload i)
-successors p (Vstore i) = next p (Vstore i)
-successors p (Binary operation) = next p (Binary operation)
 successors p (IfCmpeq o) = next p (IfCmpeq o) ++ (target p o ∷ [])
 successors p (IfCmpne o) = next p (IfCmpne o) ++ (target p o ∷ [])
 successors p (IfIcmp order o) = next p (IfIcmp order o) ++ (target p o ∷ [])
 successors p (Goto o) = target p o ∷ []
-successors p (Invokestatic c) = next p (Invokestatic c)
-successors p (Invokenative c) = next p (Invokenative c)
 successors p Return = []
-successors p (New s) = next p (New s)
-successors p (Newarray s) = next p (Newarray s)
-successors p Arraylength = next p Arraylength
-successors p (Aaddf offset) = next p (Aaddf offset)
-successors p Aadds = next p Aadds
-successors p Imload = next p Imload
-successors p Cmload = next p Cmload
-successors p Amload = next p Amload
-successors p Imstore = next p Imstore
-successors p Cmstore = next p Cmstore
-successors p Amstore = next p Amstore
+successors p i = next p i
 
 -- ## Reaching a place
 
@@ -85,7 +61,7 @@ Lands x plan (q ∷ qs) = Hits x (shape_at plan q) × Lands x plan qs
 
 -- the shape at a function's entry: an empty stack, the arguments as the sheet has them, and none elsewhere
 abbrev pub entry_of : Function → Shape
-entry_of g = record { stack = []; variables = g.signature.arguments ++ replicate (32 - length g.signature.arguments) Unknown }
+entry_of g = record { stack = []; variables = map Some g.signature.arguments ++ replicate (32 - length g.signature.arguments) None }
 
 -- with the shape s at p: an instruction stands there, passes its checks, and its result reaches every place that it can go on to
 pub record Passes (P : Program) (f : ℕ) (plan : Plan) (p : ℕ) (s : Shape) : Type 0 where

@@ -27,10 +27,9 @@ abbrev pub at : Table → ℕ → Cell
 at T q = slice_index_or T q off
 
 abbrev pub shape_of : Cell → Option Shape
-shape_of off = None
-shape_of blank = None
 shape_of (marked s) = Some s
 shape_of (settled s) = Some s
+shape_of c = None
 
 -- the plan that a table holds
 abbrev pub plan_of : Table → Plan
@@ -75,10 +74,8 @@ spread f p x (q ∷ qs) T = bind (put f p T q x) (spread f p x qs)
 -- the lowest marked place; past the table if nothing is marked
 unfoldable pub lowest : Table → ℕ
 lowest [] = 0
-lowest (off ∷ T) = suc (lowest T)
-lowest (blank ∷ T) = suc (lowest T)
 lowest (marked s ∷ T) = 0
-lowest (settled s ∷ T) = suc (lowest T)
+lowest (c ∷ T) = suc (lowest T)
 
 -- the shape s with its instruction applied, and the places to go on to
 abbrev pub applied : Program → ℕ → ℕ → Shape → Option Instruction → Out (Shape × List (Option ℕ))
@@ -100,10 +97,8 @@ Answer = Out (Table × ℕ)
 
 -- the lowest place taken if it is marked, after t takes
 unfoldable pub turn : Program → ℕ → ℕ → Table → (Table → Answer) → Cell → Answer
-turn P f t T continue off = good (T, t)
-turn P f t T continue blank = good (T, t)
 turn P f t T continue (marked s) = bind (visit P f T (lowest T) s) continue
-turn P f t T continue (settled s) = good (T, t)
+turn P f t T continue c = good (T, t)
 
 -- at most k takes more
 unfoldable pub run : Program → ℕ → ℕ → ℕ → Table → Answer

@@ -3,34 +3,21 @@
 // A package that is not accepted is refused as by `verdict`.
 #![tactic(auto)]
 
-ghost use Rattle.verifier.specs.Checking.{Checked};
-
 use bytecode::kind::Kind;
+use intake::{Failure, RECORDS, read_hex};
 use shapes::table::{ShapeMark, ShapeRecord, blank_record};
-use source::hex::HexText;
-use source::loader::{LIMIT, load};
 use std::io;
-use std::io::Read;
 use verifier::program::{Program, check};
 
-// A record for each byte of code that a package can have.
-const RECORDS: usize = 4096;
-
-fn refused(rt: &HostRuntime, shown: (u8, usize, usize)) -> io::Result<()> {
-    let (number, first, second) = shown;
-    println!(rt; "refused {number} {first} {second}")
-}
-
-fn print_kinds(rt: &HostRuntime, kinds: &[Kind; 32], count: usize) -> io::Result<()> {
+fn print_kinds(rt: &HostRuntime, kinds: &[Option<Kind>; 32], count: usize) -> io::Result<()> {
     if count == 0 {
         return print!(rt; " .");
     }
     print!(rt; " ")?;
     for kind in kinds.iter().take(count) {
         match kind {
-            Kind::Word => print!(rt; "w")?,
-            Kind::Reference => print!(rt; "a")?,
-            Kind::Unknown => print!(rt; "-")?,
+            Some(kind) => print!(rt; "{kind}")?,
+            None => print!(rt; "-")?,
         }
     }
     Ok(())
@@ -43,7 +30,7 @@ fn print_plan(
     records: &[ShapeRecord],
 ) -> io::Result<()> {
     for (place, record) in records.iter().enumerate() {
-        if let ShapeMark::Shaped = record.mark {
+        if record.mark == ShapeMark::Shaped {
             print!(rt; "{function} {place}")?;
             print_kinds(rt, &record.stack, record.depth)?;
             print_kinds(rt, &record.variables, variables)?;
@@ -53,12 +40,11 @@ fn print_plan(
     Ok(())
 }
 
-fn print_plans(rt: &HostRuntime, program: &Program, table: &[ShapeRecord]) -> io::Result<()>
-    requires { Checked program.now }
-{
+fn print_plans(rt: &HostRuntime, program: &Program, table: &[ShapeRecord]) -> io::Result<()> {
     let contents = program.contents();
     let mut rest = table;
-    for function in 0..contents.function_count {
+    // By number, which is printed.
+    for function in 0..contents.function_count() {
         let size = contents.code(function).len().min(rest.len());
         print_plan(rt, function, contents.variables(function), &rest[0..size])?;
         rest = &rest[size..];
@@ -66,17 +52,14 @@ fn print_plans(rt: &HostRuntime, program: &Program, table: &[ShapeRecord]) -> io
     Ok(())
 }
 
-fn main(rt: HostRuntime) -> io::Result<()> {
-    let mut text = Vec::new(rt.alloc());
-    rt.stdin().read_to_end(&mut text)?;
-    let mut buffer = vec![in rt.alloc(); 0u8; LIMIT]?;
-    match load(&mut HexText::new(&text), &mut buffer) {
-        Ok(count) => buffer.truncate(count),
-        Err(fault) => return refused(&rt, fault.shown()),
-    }
+fn judge(rt: &HostRuntime) -> Result<(), Failure> {
+    let bytes = read_hex(rt)?;
     let mut table = vec![in rt.alloc(); blank_record(); RECORDS]?;
-    match check(&buffer, &mut table) {
-        Ok(accepted) => print_plans(&rt, &accepted.program, &table),
-        Err(refusal) => refused(&rt, refusal.shown()),
-    }
+    let accepted = check(&bytes, &mut table)?;
+    print_plans(rt, &accepted.program, &table)?;
+    Ok(())
+}
+
+fn main(rt: HostRuntime) -> io::Result<()> {
+    judge(&rt).or_else(|failure| failure.print(&rt))
 }

@@ -1,85 +1,94 @@
--- The parts that are known of a package, put together, and what they say of the program.
-use Rattle.std.proofs.Common.{◌≡◌, ℕ, ◌+◌, ◌*◌, ◌<◌, ◌≤◌, true, false, cond, eqb, List, [], ◌∷◌, map, length, take, drop, ◌∙◌, arith}
-use lib.ListN.{length-map}
-use Rattle.std.proofs.lemmas.List.{length-take-le, length-drop}
-use Rattle.std.proofs.lemmas.List.FromFn.{length-map-range_with_len}
+-- What every package promises of its program.
+use Rattle.std.proofs.Common.{◌≡◌, ℕ, ◌^◌, ◌<◌, ◌≤◌, true, false, cond, eqb, List, [], ◌∷◌, map, length, get_or, take, ap, ◌∙◌, subst, sym, refl, arith}
+use Rattle.std.proofs.lemmas.List.{length-take-le, length-map, get_or-take}
+use Rattle.std.proofs.Math.ListN.{get_or-map}
+use Rattle.std.proofs.ByRecursion.{All-from_get_or}
 use Rattle.std.specs.List.{AllByRecursion}
-use Rattle.bytecode.specs.declared.kind.Kind.TheVariants.{Word, Reference}
-use Rattle.reader.specs.Fields.{byte, four, bytes_from}
 use Rattle.reader.specs.Layout.{kind_of}
-use Rattle.reader.specs.View.{function_of, native_of, program_of, code_size, KnownKind, FrontFits, FunctionFits, FunctionLettered, FunctionsKnown, FunctionFormed, NativeFits, NativeLettered, NativesKnown, NativeFormed, Fitting, FunctionBehind}
+use Rattle.reader.specs.Entries.{integer_of, function_entry, function_of, native_entry, native_of, FunctionFits, FunctionLettered, NativeFits, NativeLettered}
+use Rattle.reader.specs.View.{program_of, no_function, no_native, function_in, FunctionFormed, NativeFormed, Fitting}
 use Rattle.reader.specs.declared.package.Package.{Package}
 use Rattle.reader.specs.declared.package.Function.{Function}
 use Rattle.reader.specs.declared.package.Native.{Native}
-
-pub bytes_length : (bs : List ℕ) (p n : ℕ) → p + n ≤ length bs → length (bytes_from bs p n) ≡ n
-bytes_length bs p n l = let k : n ≤ length (drop p bs) = simp length-drop (omega arith) in length-take-le n (drop p bs) k
-
-mapped_length : {X Y : Type 0} (f : X → Y) (xs : List X) (n : ℕ) → n ≤ length xs → length (map f (take n xs)) ≡ n
-mapped_length f xs n l = length-map (take n xs) f ∙ length-take-le n xs l
-
--- ## Every letter tells a kind
-
-letter_known : (x : ℕ) → KnownKind (kind_of x)
-letter_known x = elim (eqb x 0x77) as (λ b. KnownKind (cond b Word Reference)) [ true ↦ tt | false ↦ tt ]
-
-letters_known : (xs : List ℕ) → AllByRecursion KnownKind (map kind_of xs)
-letters_known [] = tt
-letters_known (x ∷ xs) = (letter_known x, letters_known xs)
+use Rattle.reader.proofs.Joining.{code_same}
+use Rattle.reader.proofs.Places.{mapped_length, front_at_lem, all_at, entry_at}
+use Rattle.reader.proofs.Turns.{no_function as absent_function, no_native as absent_native}
 
 -- ## Functions and natives within the limits
 
-function_formed : (bs : List ℕ) (f : Function) → FunctionFits bs f → FunctionLettered bs f → FunctionFormed (function_of bs f)
-function_formed bs f h k =
-    let n : length (bytes_from bs f.code f.size) ≡ f.size = bytes_length bs f.code f.size h.inside in
-    let m : length (map kind_of (bytes_from bs (f.kinds + 1) f.arguments)) ≡ f.arguments =
-    length-map (bytes_from bs (f.kinds + 1) f.arguments) kind_of ∙ bytes_length bs (f.kinds + 1) f.arguments k in
+function_formed : (f : Function) → FunctionFits f.entry → FunctionLettered f → FunctionFormed (function_of f)
+function_formed f h k =
+    let n : length (take f.entry.size f.entry.onward.now) ≡ f.entry.size = length-take-le f.entry.size f.entry.onward.now h.inside in
+    let m : length (map kind_of f.signature.argument_letters.now) ≡ f.entry.arguments = length-map f.signature.argument_letters.now kind_of ∙ k in
     record {
       some = omega (arith, n, h.some);
       few = omega (arith, n, h.few);
       narrow = h.narrow;
       ordered = omega (arith, m, h.ordered);
-      takes = letters_known (bytes_from bs (f.kinds + 1) f.arguments);
-      gives = letter_known (byte bs f.kinds);
     }
 
-native_formed : (bs : List ℕ) (f : Native) → NativeFits f → NativeLettered bs f → NativeFormed (native_of bs f)
-native_formed bs f h k =
-    let m : length (map kind_of (bytes_from bs (f.kinds + 1) f.arguments)) ≡ f.arguments =
-    length-map (bytes_from bs (f.kinds + 1) f.arguments) kind_of ∙ bytes_length bs (f.kinds + 1) f.arguments k in
-    record { few = omega (arith, m, h); takes = letters_known (bytes_from bs (f.kinds + 1) f.arguments); gives = letter_known (byte bs f.kinds) }
+native_formed : (f : Native) → NativeFits f.entry → NativeLettered f → NativeFormed (native_of f)
+native_formed f h k =
+    let m : length (map kind_of f.signature.argument_letters.now) ≡ f.entry.arguments = length-map f.signature.argument_letters.now kind_of ∙ k in
+    record { few = omega (arith, m, h) }
 
-functions_formed : (bs : List ℕ) (fs : List Function) → AllByRecursion (FunctionFits bs) fs → AllByRecursion (FunctionLettered bs) fs → AllByRecursion FunctionFormed (map (function_of bs) fs)
-functions_formed bs [] h k = tt
-functions_formed bs (f ∷ fs) h k = (function_formed bs f h.0 k.0, functions_formed bs fs h.1 k.1)
+module _ (p : Package) where
+  function_at : (i : ℕ) → i < p.function_count → FunctionFormed (function_in (program_of p) i)
+  function_at i l =
+      let n : p.function_count ≤ length p.functions = omega arith in
+      subst FunctionFormed (sym (front_at_lem function_of p.functions p.function_count i absent_function no_function n l))
+      (function_formed (get_or p.functions i absent_function)
+      (entry_at function_entry FunctionFits p.functions p.function_count i absent_function n l p.functions_known.each)
+      (all_at FunctionLettered p.functions p.function_count i absent_function n l p.functions_known.lettered))
 
-natives_formed_lem : (bs : List ℕ) (fs : List Native) → AllByRecursion NativeFits fs → AllByRecursion (NativeLettered bs) fs → AllByRecursion NativeFormed (map (native_of bs) fs)
-natives_formed_lem bs [] h k = tt
-natives_formed_lem bs (f ∷ fs) h k = (native_formed bs f h.0 k.0, natives_formed_lem bs fs h.1 k.1)
+  native_at : (i : ℕ) → i < p.native_count → NativeFormed (get_or (program_of p).natives i no_native)
+  native_at i l =
+      let n : p.native_count ≤ length p.natives = omega arith in
+      subst NativeFormed (sym (front_at_lem native_of p.natives p.native_count i absent_native no_native n l))
+      (native_formed (get_or p.natives i absent_native)
+      (entry_at native_entry NativeFits p.natives p.native_count i absent_native n l p.natives_known.each)
+      (all_at NativeLettered p.natives p.native_count i absent_native n l p.natives_known.lettered))
 
--- ## The package
+pub function_counted : (p : Package) → length (program_of p).functions ≡ p.function_count
+function_counted p = mapped_length function_of p.functions p.function_count (omega arith)
 
-pub fitting_from : (p : Package) → length p.functions ≡ 64 → length p.natives ≡ 32 → 0 < p.function_count → p.function_count ≤ 64 → p.native_count ≤ 32 →
-    FrontFits p.bytes.now p.integers p.integer_count p.strings p.string_size →
-    FunctionsKnown p.bytes.now (take p.function_count p.functions) → NativesKnown p.bytes.now (take p.native_count p.natives) →
-    AllByRecursion (FunctionBehind p.bytes.now) (take p.function_count p.functions) →
-    code_size (program_of p).functions ≡ p.code_size → Fitting p
-fitting_from p fs ns some few fewer front functions natives behind sum =
+pub native_counted : (p : Package) → length (program_of p).natives ≡ p.native_count
+native_counted p = mapped_length native_of p.natives p.native_count (omega arith)
+
+none_taken : (xs : List ℕ) → length xs ≡ 0 → map kind_of xs ≡ []
+none_taken [] e = refl
+none_taken (x ∷ xs) e = absurd (omega arith)
+
+pub fitting_of : (p : Package) → Fitting p
+fitting_of p =
+    let n : p.function_count ≤ length p.functions = omega arith in
+    let m : p.native_count ≤ length p.natives = omega arith in
+    let fs = function_counted p in
+    let ns = native_counted p in
+    let main = get_or p.functions 0 absent_function in
+    let main_is = front_at_lem function_of p.functions p.function_count 0 absent_function no_function n p.some_functions in
+    let entry_is = front_at_lem function_entry p.functions p.function_count 0 absent_function absent_function.entry n p.some_functions in
+    let es : 0 < length (map function_entry (take p.function_count p.functions)) = (let k = mapped_length function_entry p.functions p.function_count n in let s = p.some_functions in omega arith) in
+    let gs : 0 < length (take p.function_count p.functions) = (let k = length-take-le p.function_count p.functions n in let s = p.some_functions in omega arith) in
+    let sum = code_same (take p.function_count p.functions) ∙ p.functions_known.sum in
     record {
-      function_room = fs;
-      native_room = ns;
-      some_functions = some;
-      few_functions = few;
-      few_natives = fewer;
-      front = front;
-      functions = functions;
-      behind = behind;
-      natives = natives;
-      formed = functions_formed p.bytes.now (take p.function_count p.functions) functions.each functions.lettered;
-      natives_formed = natives_formed_lem p.bytes.now (take p.native_count p.natives) natives.each natives.lettered;
+      some_functions = p.some_functions;
+      few_functions = p.few_functions;
+      few_natives = p.few_natives;
+      function_count = fs;
+      native_count = ns;
+      words = λ k. subst (λ x. x < 2 ^ 32) (sym (get_or-map integer_of p.integers.now k [])) (p.front.words k);
+      strings = let a = p.front.strings_inside in let b = p.front.short in omega arith;
+      strings_end = p.front.strings_end;
+      formed = All-from_get_or FunctionFormed (program_of p).functions no_function (λ i l. function_at p i (omega arith));
+      natives_formed = All-from_get_or NativeFormed (program_of p).natives no_native (λ i l. native_at p i (omega arith));
+      takes = ap (λ f. f.signature.arguments) main_is ∙ none_taken main.signature.argument_letters.now
+          (all_at FunctionLettered p.functions p.function_count 0 absent_function n p.some_functions p.functions_known.lettered ∙ ap (λ e. e.arguments) (sym entry_is) ∙ p.functions_known.takes absent_function.entry es);
+      gives = ap (λ f. f.signature.result) main_is ∙ ap kind_of (first_gives p.functions p.function_count n p.some_functions (p.functions_known.gives absent_function gs));
       code_sum = sum;
-      function_count = mapped_length (function_of p.bytes.now) p.functions p.function_count (omega arith);
-      native_count = mapped_length (native_of p.bytes.now) p.natives p.native_count (omega arith);
-      integer_count = length-map-range_with_len (λ k. four p.bytes.now (p.integers + 4 * k)) 0 p.integer_count;
-      string_size = bytes_length p.bytes.now p.strings p.string_size front.strings_inside;
+      little = let h = p.functions_known.little in omega arith;
     }
+  where
+    first_gives : (fs : List Function) (n : ℕ) → n ≤ length fs → 0 < n → (get_or (take n fs) 0 absent_function).signature.result_letter ≡ 0x77 →
+        (get_or fs 0 absent_function).signature.result_letter ≡ 0x77
+    first_gives fs n k l h = ap (λ f. f.signature.result_letter) (sym (get_or-take n fs 0 absent_function l)) ∙ h

@@ -1,5 +1,5 @@
 mod Repeating
-pub mod Fits
-pub mod Places
 mod Turns
+mod Places
 mod Joining
+pub mod Fits

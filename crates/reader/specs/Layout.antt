@@ -1,6 +1,7 @@
 -- A package and its sheet, field by field in file order: the program that they hold, or the first check that fails.
 -- Each field is looked at for being cut (10) before its value is.
-use Rattle.std.specs.Prelude.{ℕ, zero, suc, ◌+◌, ◌-◌, Bool, true, false, cond, not, ◌&&◌, ◌||◌, List, [], ◌∷◌, ◌++◌, map, length, ◌==◌, nat_le, nat_lt, slice_index}
+use Rattle.std.specs.Prelude.{ℕ, ◌+◌, ◌-◌, Bool, false, cond, not, ◌&&◌, ◌||◌, List, [], ◌∷◌, ◌++◌, map, length, drop, ◌==◌, nat_le, nat_lt, slice_index}
+use Rattle.std.specs.List.{list_all}
 use Rattle.bytecode.specs.declared.kind.Kind.{Kind}
 use Rattle.bytecode.specs.declared.kind.Kind.TheVariants.{Word, Reference}
 use Rattle.bytecode.specs.Outcome.{Out, good, bind, repeat}
@@ -109,27 +110,27 @@ natives_at bs n p = series (λ i s. native_at bs s.after) n p
 abbrev pub is_letter : ℕ → Bool
 is_letter x = x == 0x77 || x == 0x61
 
-abbrev pub are_letters : List ℕ → ℕ → ℕ → Bool
-are_letters bs p zero = true
-are_letters bs p (suc n) = is_letter (byte bs p) && are_letters bs (p + 1) n
-
 abbrev pub kind_of : ℕ → Kind
 kind_of x = cond (x == 0x77) Word Reference
 
--- the letter of the result stands at p, those of n arguments after it
-abbrev pub signature_from : List ℕ → ℕ → ℕ → Signature
-signature_from bs p n = record { arguments = map kind_of (bytes_from bs (p + 1) n); result = kind_of (byte bs p) }
+-- the letter of the result, and behind it those of the arguments
+abbrev pub signature_from : List ℕ → Signature
+signature_from letters = record { arguments = map kind_of (drop 1 letters); result = kind_of (byte letters 0) }
 
--- a record of the sheet: its length without its first two bytes, the number of its sort (1 function, 2 native), then the letters;
--- whether it is main's, which has to give a word. Whatever is wrong with it is refused at its offset (15)
+-- whether bytes are a record of the sheet: their number without the first two, the number of its sort (1 function, 2 native), then the letters;
+-- that of main has to give a word
+abbrev pub is_record : ℕ → Bool → ℕ → List ℕ → Bool
+is_record sort main arguments found =
+    two_low found 0 == 3 + arguments &&
+    (two_low found 2 == sort &&
+    (list_all is_letter (drop 4 found) &&
+    (not main || byte (drop 4 found) 0 == 0x77)))
+
+-- a record for so many arguments. Whatever is wrong with it is refused at its offset (15)
 abbrev pub record_at : List ℕ → ℕ → Bool → ℕ → ℕ → Out (Read Signature)
 record_at bs sort main arguments p =
-    test (nat_le (p + (5 + arguments)) (length bs) &&
-    (two_low bs p == 3 + arguments &&
-    (two_low bs (p + 2) == sort &&
-    (are_letters bs (p + 4) (1 + arguments) &&
-    (not main || byte bs (p + 4) == 0x77))))) 15 p
-    (good (record { value = signature_from bs (p + 4) arguments; after = p + (5 + arguments) }))
+    test (nat_le (p + (5 + arguments)) (length bs) && is_record sort main arguments (bytes_from bs p (5 + arguments))) 15 p
+    (good (record { value = signature_from (drop 4 (bytes_from bs p (5 + arguments))); after = p + (5 + arguments) }))
 
 -- n records, for functions or natives of these argument counts
 abbrev pub function_sheet_at : List ℕ → ℕ → List ℕ → ℕ → Out (Read (List Signature))

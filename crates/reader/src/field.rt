@@ -1,8 +1,8 @@
-// Fields of a package, by their offsets.
-ghost use Rattle.std.specs.Prelude.{◌≡◌, ◌+◌, ◌≤◌, length, OnOk};
+// Reading the fields of a package, one after another.
+ghost use Rattle.std.specs.Prelude.{◌≡◌, ◌+◌, ◌<◌, ◌≤◌, drop, length, IfOk, OnErr, OnOk};
 ghost use Rattle.bytecode.specs.Outcome.{told, same};
 ghost use Rattle.bytecode.specs.declared.refusal.Refusal.TheVariants.{Field};
-ghost use Rattle.reader.specs.Fields.{two_low, bytes_from, byte_at, two_at, bytes_at};
+ghost use Rattle.reader.specs.Fields.{byte_at, two_at, bytes_at};
 
 use bytecode::refusal::{FieldFault, Refusal};
 
@@ -13,45 +13,71 @@ pub(crate) fn refused(fault: FieldFault, offset: usize) -> Refusal
     Refusal::Field { fault, offset }
 }
 
-// Whether a field of so many bytes stands at an offset.
-pub(crate) fn block(bytes: &[u8], offset: usize, size: usize) -> Result<(), Refusal>
-    requires { offset ≤ length bytes.now }
-    ensures met { bytes_at bytes.now offset size ≡ told (λ _. bytes_from bytes.now offset size) result }
-    ensures room { OnOk result (offset + size ≤ length bytes.now) }
-{
-    if size > bytes.len() - offset {
-        return Err(refused(FieldFault::Cut, offset));
-    }
-    Ok(())
+// The bytes of a package, and the offset up to which they are read. A field that is cut leaves it where it is. That the bytes stay the
+// same is a clause of each method: no field could say what a call leaves.
+#[derive(Drop)]
+pub(crate) struct Cursor<'a> {
+    bytes: &'a [u8],
+    offset: usize,
+    ghost within: { offset ≤ length bytes.now },
 }
 
-pub(crate) fn byte(bytes: &[u8], offset: usize) -> Result<u8, Refusal>
-    requires { offset ≤ length bytes.now }
-    ensures met { byte_at bytes.now offset ≡ told same result }
-    ensures room { OnOk result (offset + 1 ≤ length bytes.now) }
-{
-    if bytes.len() - offset < 1 {
-        return Err(refused(FieldFault::Cut, offset));
+impl<'a> Cursor<'a> {
+    // A cursor at an offset.
+    pub(crate) fn new(bytes: &'a [u8], offset: usize) -> Self
+        requires { offset ≤ length bytes.now }
+        ensures lent { result.bytes.now ≡ bytes.now }
+        ensures at { result.offset ≡ offset }
+    {
+        Cursor { bytes, offset }
     }
-    Ok(bytes[offset])
-}
 
-// Two bytes, the most significant first.
-pub(crate) fn pair(bytes: &[u8], offset: usize) -> Result<u16, Refusal>
-    requires { offset ≤ length bytes.now }
-    ensures met { two_at bytes.now offset ≡ told same result }
-    ensures room { OnOk result (offset + 2 ≤ length bytes.now) }
-{
-    if bytes.len() - offset < 2 {
-        return Err(refused(FieldFault::Cut, offset));
+    pub(crate) fn offset(&self) -> usize
+        ensures { result ≡ self.now.offset }
+    {
+        self.offset
     }
-    Ok(bytes[offset] as u16 * 256 + bytes[offset + 1] as u16)
-}
 
-// Two bytes, the least significant first.
-pub(crate) fn pair_low(bytes: &[u8], offset: usize) -> usize
-    requires { offset + 2 ≤ length bytes.now }
-    ensures { result ≡ two_low bytes.now offset }
-{
-    bytes[offset] as usize + bytes[offset + 1] as usize * 256
+    // What is not read.
+    pub(crate) fn rest(&self) -> &'a [u8]
+        ensures met { result.now ≡ drop self.now.offset self.now.bytes.now }
+        ensures long { length result.now + self.now.offset ≡ length self.now.bytes.now }
+    {
+        &self.bytes[self.offset..]
+    }
+
+    // So many bytes.
+    pub(crate) fn block(&mut self, size: usize) -> Result<&'a [u8], Refusal>
+        ensures met { bytes_at self.old.bytes.now self.old.offset size ≡ told (λ block. block.now) result }
+        ensures lent { self.new.bytes.now ≡ self.old.bytes.now }
+        ensures moved { OnOk result (self.new.offset ≡ self.old.offset + size) }
+        ensures long { IfOk result (λ block. length block.now ≡ size) }
+        ensures cut { OnErr result (length self.old.bytes.now < self.old.offset + size) }
+    {
+        let rest = self.rest();
+        if size > rest.len() {
+            return Err(refused(FieldFault::Cut, self.offset));
+        }
+        self.offset += size;
+        Ok(&rest[..size])
+    }
+
+    pub(crate) fn byte(&mut self) -> Result<u8, Refusal>
+        ensures met { byte_at self.old.bytes.now self.old.offset ≡ told same result }
+        ensures lent { self.new.bytes.now ≡ self.old.bytes.now }
+        ensures moved { OnOk result (self.new.offset ≡ self.old.offset + 1) }
+    {
+        let block = self.block(1)?;
+        Ok(block[0])
+    }
+
+    // Two bytes, the most significant first.
+    pub(crate) fn pair(&mut self) -> Result<u16, Refusal>
+        ensures met { two_at self.old.bytes.now self.old.offset ≡ told same result }
+        ensures lent { self.new.bytes.now ≡ self.old.bytes.now }
+        ensures moved { OnOk result (self.new.offset ≡ self.old.offset + 2) }
+    {
+        let block = self.block(2)?;
+        Ok(u16::from_be_bytes([block[0], block[1]]))
+    }
 }

@@ -1,16 +1,16 @@
 // Reads a package and its sheet, field by field.
 #![tactic(auto)]
 
-ghost use Rattle.std.specs.Prelude.{◌≡◌, ◌+◌, ◌≤◌, length, IfOk};
-ghost use Rattle.bytecode.specs.Outcome.{told, same};
-ghost use Rattle.reader.specs.Fields.{bytes_from};
+ghost use Rattle.std.specs.Prelude.{◌≡◌, map, IfOk};
+ghost use Rattle.bytecode.specs.Outcome.{told};
 ghost use Rattle.reader.specs.Layout.{magic_at, front_at, package_at};
-ghost use Rattle.reader.specs.View.{integers_from, program_of, FrontFits, Fitting};
+ghost use Rattle.reader.specs.Entries.{integer_of, FrontFits};
+ghost use Rattle.reader.specs.View.{program_of, Fitting};
 ghost use Rattle.reader.specs.Samples.{Samples};
 
 use bytecode::refusal::{FieldFault, Refusal};
-use field::{pair, refused};
-use package::{Function, Native, Package};
+use field::{Cursor, refused};
+use package::{FUNCTION_LIMIT, NATIVE_LIMIT, NO_FUNCTION, NO_NATIVE, Package};
 
 mod field;
 pub mod package;
@@ -21,111 +21,86 @@ const LENGTH_LIMIT: usize = 16384;
 
 const VERSION: u16 = 0x0017;
 
-const FUNCTION_LIMIT: usize = 64;
-
-const NATIVE_LIMIT: usize = 32;
-
-// The first four bytes; answers the offset after them.
-fn read_magic(bytes: &[u8]) -> Result<usize, Refusal>
-    ensures met { magic_at bytes.now ≡ told same result }
-    ensures room { IfOk result (λ p. p ≤ length bytes.now) }
+// Reads the first four bytes, and answers a cursor behind them.
+fn read_magic<'a>(bytes: &'a [u8]) -> Result<Cursor<'a>, Refusal>
+    ensures met { magic_at bytes.now ≡ told (λ cursor. cursor.offset) result }
+    ensures lent { IfOk result (λ cursor. cursor.bytes.now ≡ bytes.now) }
 {
     match bytes {
-        [0xC0, 0xC0, 0xFF, 0xEE, rest @ ..] => Ok(bytes.len() - rest.len()),
+        [0xC0, 0xC0, 0xFF, 0xEE, rest @ ..] => Ok(Cursor::new(bytes, bytes.len() - rest.len())),
         [_, _, _, _, ..] => Err(refused(FieldFault::Magic, 0)),
         _ => Err(refused(FieldFault::Cut, 0)),
     }
 }
 
-// Where the integers and the strings lie. The strings come last.
-#[derive(Clone, Copy)]
-struct Front {
-    integers: usize,
-    integer_count: usize,
-    strings: usize,
-    string_size: usize,
+// What stands before the functions, and a cursor behind it.
+#[derive(Drop)]
+struct Front<'a> {
+    integers: &'a [[u8; 4]],
+    strings: &'a [u8],
+    cursor: Cursor<'a>,
 }
 
 // Reads what stands before the functions.
-fn read_front(bytes: &[u8]) -> Result<Front, Refusal>
-    ensures met { front_at bytes.now ≡ told (λ f. record { value = record { integers = integers_from bytes.now f.integers f.integer_count; strings = bytes_from bytes.now f.strings f.string_size }; after = f.strings + f.string_size }) result }
-    ensures fits { IfOk result (λ f. FrontFits bytes.now f.integers f.integer_count f.strings f.string_size) }
+fn read_front<'a>(bytes: &'a [u8]) -> Result<Front<'a>, Refusal>
+    ensures met { front_at bytes.now ≡ told (λ front. record { value = record { integers = map integer_of front.integers.now; strings = front.strings.now }; after = front.cursor.offset }) result }
+    ensures lent { IfOk result (λ front. front.cursor.bytes.now ≡ bytes.now) }
+    ensures fits { IfOk result (λ front. FrontFits bytes.now front.integers.now front.strings.now) }
 {
     if bytes.len() > LENGTH_LIMIT {
         return Err(refused(FieldFault::Limit, 0));
     }
-    let version_offset = read_magic(bytes)?;
-    let version = pair(bytes, version_offset)?;
-    if version != VERSION {
+    let mut cursor = read_magic(bytes)?;
+    let version_offset = cursor.offset();
+    if cursor.pair()? != VERSION {
         return Err(refused(FieldFault::Version, version_offset));
     }
-    let integer_count = pair(bytes, version_offset + 2)? as usize;
-    let integers = version_offset + 4;
-    let after = pool::skip_integers(bytes, integer_count, integers)?;
-    let string_size = pair(bytes, after)? as usize;
-    let strings = after + 2;
-    pool::check_strings(bytes, string_size, strings)?;
+    let integer_count = cursor.pair()? as usize;
+    let integers = pool::read_integers(&mut cursor, integer_count)?;
+    let string_size = cursor.pair()? as usize;
+    let strings = pool::read_strings(&mut cursor, string_size)?;
     Ok(Front {
         integers,
-        integer_count,
         strings,
-        string_size,
+        cursor,
     })
 }
 
-fn no_functions() -> [Function; 64] {
-    [Function {
-        arguments: 0,
-        variables: 0,
-        code: 0,
-        size: 0,
-        kinds: 0,
-    }; 64]
-}
-
-fn no_natives() -> [Native; 32] {
-    [Native {
-        arguments: 0,
-        index: 0,
-        kinds: 0,
-    }; 32]
-}
-
-/// Reads a package with its sheet: where everything lies in it, or the first field or record that is wrong.
+/// Reads a package with its sheet: what it holds, or the first field or record that is wrong.
 pub fn read_package<'a>(bytes: &'a [u8]) -> Result<Package<'a>, Refusal>
     ensures met { package_at bytes.now ≡ told program_of result }
     ensures lent { IfOk result (λ p. p.bytes.now ≡ bytes.now) }
     ensures fitting { IfOk result Fitting }
 {
-    let front = read_front(bytes)?;
-    let functions_offset = front.strings + front.string_size;
-    let function_count = pair(bytes, functions_offset)? as usize;
+    let Front {
+        integers,
+        strings,
+        mut cursor,
+    } = read_front(bytes)?;
+    let functions_offset = cursor.offset();
+    let function_count = cursor.pair()? as usize;
     if function_count == 0 || function_count > FUNCTION_LIMIT {
         return Err(refused(FieldFault::Limit, functions_offset));
     }
-    let mut functions = no_functions();
-    let pool = pool::read_functions(bytes, function_count, functions_offset + 2, &mut functions)?;
-    let native_count = pair(bytes, pool.after)? as usize;
+    let mut functions = [NO_FUNCTION; FUNCTION_LIMIT];
+    let code_size = pool::read_functions(&mut cursor, &mut functions[..function_count])?;
+    let natives_offset = cursor.offset();
+    let native_count = cursor.pair()? as usize;
     if native_count > NATIVE_LIMIT {
-        return Err(refused(FieldFault::Limit, pool.after));
+        return Err(refused(FieldFault::Limit, natives_offset));
     }
-    let mut natives = no_natives();
-    let sheet = pool::read_natives(bytes, native_count, pool.after + 2, &mut natives)?;
+    let mut natives = [NO_NATIVE; NATIVE_LIMIT];
+    pool::read_natives(&mut cursor, &mut natives[..native_count])?;
     sheet::read_sheet(
-        bytes,
-        sheet,
-        function_count,
-        &mut functions,
-        native_count,
-        &mut natives,
+        &mut cursor,
+        &mut functions[..function_count],
+        &mut natives[..native_count],
     )?;
     Ok(Package {
         bytes,
-        integers: front.integers,
-        integer_count: front.integer_count,
-        strings: front.strings,
-        string_size: front.string_size,
-        code_size: pool.code_size,
+        integers,
+        strings,
+        code_size,
         function_count,
         native_count,
         functions,

@@ -1,154 +1,149 @@
 // The pools of a package: integers, strings, functions, natives.
-ghost use Rattle.std.specs.Prelude.{◌≡◌, ℕ, ◌+◌, ◌-◌, ◌*◌, ◌^◌, ◌<◌, ◌≤◌, map, length, take, IfOk, OnOk};
+ghost use Rattle.std.specs.Prelude.{◌≡◌, ℕ, ◌+◌, ◌-◌, ◌*◌, ◌^◌, ◌<◌, ◌≤◌, [], map, length, slice_index_or, IfOk, OnOk};
 ghost use Rattle.std.specs.List.{AllByRecursion};
+ghost use Rattle.std.specs.Simd.{first_chunks};
 ghost use Rattle.bytecode.specs.Outcome.{told};
-ghost use Rattle.reader.specs.Fields.{byte as byte_of, four, bytes_from};
+ghost use Rattle.reader.specs.Fields.{byte};
 ghost use Rattle.reader.specs.Layout.{integers_at, strings_at, function_at, functions_at, native_at, natives_at, code_bytes};
-ghost use Rattle.reader.specs.View.{integers_from, function_entry_of, native_entry_of, FunctionFits, FunctionEnds, FunctionsFit, NativeFits};
+ghost use Rattle.reader.specs.Entries.{integer_of, function_entry, function_entry_of, native_entry, native_entry_of, FunctionFits, FunctionBehind, MainTakes, NativeFits};
 
-use crate::field::{block, byte, pair, refused};
-use crate::package::{Function, Native};
+use crate::field::{Cursor, refused};
+use crate::package::{Function, FunctionEntry, Native, NativeEntry};
 use bytecode::refusal::{FieldFault, Refusal};
 
 // The code bytes of all functions together.
 const CODE_LIMIT: usize = 4096;
 
-// The offset after so many integers.
-pub(crate) fn skip_integers(bytes: &[u8], count: usize, offset: usize) -> Result<usize, Refusal>
-    requires { offset ≤ length bytes.now }
-    ensures met { integers_at bytes.now count offset ≡ told (λ q. record { value = integers_from bytes.now offset count; after = q }) result }
-    ensures room { IfOk result (λ q. q ≤ length bytes.now) }
-    ensures inside { IfOk result (λ q. q ≡ offset + 4 * count) }
-    ensures words { OnOk result ((k : ℕ) → k < count → four bytes.now (offset + 4 * k) < 2 ^ 32) }
+const VARIABLE_LIMIT: u8 = 32;
+
+const NATIVE_ARGUMENT_LIMIT: u16 = 4;
+
+// The first bytes by fours.
+fn fours<'a>(bytes: &'a [u8], count: usize) -> &'a [[u8; 4]]
+    requires { 4 * count ≤ length bytes.now }
+    ensures met { result.now ≡ first_chunks 4 count bytes.now }
+    ensures words { (k : ℕ) → integer_of (slice_index_or result.now k []) < 2 ^ 32 }
 {
-    let mut after = offset;
-    for i in 0..count {
-        block(bytes, after, 4)?;
-        after += 4;
-    }
-    Ok(after)
+    let (words, _) = bytes.as_chunks::<4>();
+    &words[..count]
 }
 
-// Whether so many string bytes stand at an offset, the last of them 0.
-pub(crate) fn check_strings(bytes: &[u8], size: usize, offset: usize) -> Result<(), Refusal>
-    requires { offset ≤ length bytes.now }
-    ensures met { strings_at bytes.now size offset ≡ told (λ _. record { value = bytes_from bytes.now offset size; after = offset + size }) result }
-    ensures room { OnOk result (offset + size ≤ length bytes.now) }
-    ensures ended { OnOk result ((0 < size → byte_of bytes.now (offset + size - 1) ≡ 0)) }
+// Reads so many integers.
+pub(crate) fn read_integers<'a>(
+    cursor: &mut Cursor<'a>,
+    count: usize,
+) -> Result<&'a [[u8; 4]], Refusal>
+    ensures met { integers_at cursor.old.bytes.now count cursor.old.offset ≡ told (λ words. record { value = map integer_of words.now; after = cursor.new.offset }) result }
+    ensures lent { cursor.new.bytes.now ≡ cursor.old.bytes.now }
+    ensures words { IfOk result (λ words. (k : ℕ) → integer_of (slice_index_or words.now k []) < 2 ^ 32) }
 {
-    block(bytes, offset, size)?;
-    if size > 0 && bytes[offset + size - 1] != 0 {
-        return Err(refused(FieldFault::StringEnd, offset));
+    let rest = cursor.rest();
+    // Each integer is a field: a refusal names the one that is cut.
+    for _ in 0..count {
+        cursor.block(4)?;
     }
-    Ok(())
+    Ok(fours(rest, count))
 }
 
-// A function's pool entry, after functions of so many code bytes.
-fn read_function(
-    bytes: &[u8],
+// Reads so many string bytes, the last of them 0.
+pub(crate) fn read_strings<'a>(cursor: &mut Cursor<'a>, size: usize) -> Result<&'a [u8], Refusal>
+    ensures met { strings_at cursor.old.bytes.now size cursor.old.offset ≡ told (λ strings. record { value = strings.now; after = cursor.new.offset }) result }
+    ensures lent { cursor.new.bytes.now ≡ cursor.old.bytes.now }
+    ensures inside { IfOk result (λ strings. length strings.now ≤ length cursor.old.bytes.now) }
+    ensures ended { IfOk result (λ strings. 0 < length strings.now → byte strings.now (length strings.now - 1) ≡ 0) }
+{
+    let offset = cursor.offset();
+    let strings = cursor.block(size)?;
+    match strings.last() {
+        Some(last) if *last != 0 => Err(refused(FieldFault::StringEnd, offset)),
+        _ => Ok(strings),
+    }
+}
+
+// Reads a function's pool entry, after functions of so many code bytes.
+fn read_function<'a>(
+    cursor: &mut Cursor<'a>,
     index: usize,
-    offset: usize,
     before: usize,
-) -> Result<Function, Refusal>
-    requires inside { offset ≤ length bytes.now }
-    requires few { before ≤ 4096 }
-    ensures met { function_at bytes.now index offset before ≡ told (λ f. record { value = function_entry_of bytes.now f; after = f.code + f.size }) result }
-    ensures fits { IfOk result (λ f. FunctionFits bytes.now f) }
-    ensures few { IfOk result (λ f. before + f.size ≤ 4096) }
-    ensures onward { IfOk result (λ f. offset ≤ f.code) }
-    ensures main { IfOk result (λ f. (index ≡ 0 → f.arguments ≡ 0)) }
+) -> Result<FunctionEntry<'a>, Refusal>
+    requires { before ≤ 4096 }
+    ensures met { function_at cursor.old.bytes.now index cursor.old.offset before ≡ told (λ e. record { value = function_entry_of e; after = cursor.new.offset }) result }
+    ensures lent { cursor.new.bytes.now ≡ cursor.old.bytes.now }
+    ensures onward { OnOk result (cursor.old.offset ≤ cursor.new.offset) }
+    ensures fits { IfOk result FunctionFits }
+    ensures few { IfOk result (λ e. before + e.size ≤ 4096) }
+    ensures behind { IfOk result (FunctionBehind (length cursor.old.bytes.now - cursor.new.offset)) }
+    ensures main { IfOk result (λ e. index ≡ 0 → e.arguments ≡ 0) }
 {
-    let arguments = byte(bytes, offset)?;
+    let start = cursor.offset();
+    let arguments = cursor.byte()?;
     if index == 0 && arguments != 0 {
-        return Err(refused(FieldFault::Limit, offset));
+        return Err(refused(FieldFault::Limit, start));
     }
-    let variables = byte(bytes, offset + 1)?;
-    if variables > 32 || variables < arguments {
-        return Err(refused(FieldFault::Limit, offset + 1));
+    let variables = cursor.byte()?;
+    if variables > VARIABLE_LIMIT || variables < arguments {
+        return Err(refused(FieldFault::Limit, start + 1));
     }
-    let size = pair(bytes, offset + 2)?;
+    let size = cursor.pair()?;
     if size == 0 || size as usize > CODE_LIMIT - before {
-        return Err(refused(FieldFault::Limit, offset + 2));
+        return Err(refused(FieldFault::Limit, start + 2));
     }
-    let code = offset + 4;
-    block(bytes, code, size as usize)?;
-    Ok(Function {
+    let onward = cursor.rest();
+    cursor.block(size as usize)?;
+    Ok(FunctionEntry {
         arguments,
         variables,
-        code,
         size,
-        kinds: 0,
+        onward,
     })
 }
 
-// Where the functions end, and how many code bytes they have.
-#[derive(Clone, Copy)]
-pub(crate) struct Functions {
-    pub(crate) after: usize,
-    pub(crate) code_size: usize,
-}
-
-// Reads so many functions to the front of a list.
-pub(crate) fn read_functions(
-    bytes: &[u8],
-    count: usize,
-    offset: usize,
-    list: &mut [Function; 64],
-) -> Result<Functions, Refusal>
-    requires inside { offset ≤ length bytes.now }
-    requires few { count ≤ 64 }
-    ensures met { functions_at bytes.now count offset ≡ told (λ q. record { value = map (function_entry_of bytes.now) (take count list.new); after = q.after }) result }
-    ensures room { IfOk result (λ q. q.after ≤ length bytes.now) }
-    ensures fit { OnOk result (FunctionsFit bytes.now (take count list.new)) }
-    ensures ends { IfOk result (λ q. AllByRecursion (FunctionEnds q.after) (take count list.new)) }
-    ensures sum { IfOk result (λ q. code_bytes (map (function_entry_of bytes.now) (take count list.new)) ≡ q.code_size) }
-{
-    let mut after = offset;
-    let mut code_size = 0;
-    for i in 0..count {
-        let function = read_function(bytes, i, after, code_size)?;
-        list[i] = function;
-        after = function.code + function.size as usize;
-        code_size += function.size as usize;
-    }
-    Ok(Functions { after, code_size })
-}
-
-fn read_native(bytes: &[u8], offset: usize) -> Result<Native, Refusal>
-    requires { offset ≤ length bytes.now }
-    ensures met { native_at bytes.now offset ≡ told (λ f. record { value = native_entry_of f; after = offset + 4 }) result }
-    ensures room { OnOk result (offset + 4 ≤ length bytes.now) }
-    ensures fits { IfOk result (λ f. NativeFits f) }
-{
-    let arguments = pair(bytes, offset)?;
-    if arguments > 4 {
-        return Err(refused(FieldFault::Limit, offset));
-    }
-    let index = pair(bytes, offset + 2)?;
-    Ok(Native {
-        arguments,
-        index,
-        kinds: 0,
-    })
-}
-
-// Reads so many natives to the front of a list, and answers the offset after them.
-pub(crate) fn read_natives(
-    bytes: &[u8],
-    count: usize,
-    offset: usize,
-    list: &mut [Native; 32],
+// Reads a function for each place of a list, and answers how many code bytes they have.
+pub(crate) fn read_functions<'a>(
+    cursor: &mut Cursor<'a>,
+    functions: &mut [Function<'a>],
 ) -> Result<usize, Refusal>
-    requires inside { offset ≤ length bytes.now }
-    requires few { count ≤ 32 }
-    ensures met { natives_at bytes.now count offset ≡ told (λ q. record { value = map native_entry_of (take count list.new); after = q }) result }
-    ensures room { IfOk result (λ q. q ≤ length bytes.now) }
-    ensures fit { OnOk result (AllByRecursion NativeFits (take count list.new)) }
+    ensures met { functions_at cursor.old.bytes.now (length functions.old) cursor.old.offset ≡ told (λ _. record { value = map function_entry_of (map function_entry functions.new); after = cursor.new.offset }) result }
+    ensures lent { cursor.new.bytes.now ≡ cursor.old.bytes.now }
+    ensures fit { OnOk result (AllByRecursion FunctionFits (map function_entry functions.new)) }
+    ensures behind { OnOk result (AllByRecursion (FunctionBehind (length cursor.old.bytes.now - cursor.new.offset)) (map function_entry functions.new)) }
+    ensures takes { OnOk result (MainTakes (map function_entry functions.new)) }
+    ensures sum { IfOk result (λ size. code_bytes (map function_entry_of (map function_entry functions.new)) ≡ size) }
+    ensures little { IfOk result (λ size. size ≤ 4096) }
 {
-    let mut after = offset;
-    for i in 0..count {
-        list[i] = read_native(bytes, after)?;
-        after += 4;
+    let mut code_size = 0;
+    for (index, function) in functions.iter_mut().enumerate() {
+        function.entry = read_function(cursor, index, code_size)?;
+        code_size += function.entry.size as usize;
     }
-    Ok(after)
+    Ok(code_size)
+}
+
+fn read_native(cursor: &mut Cursor) -> Result<NativeEntry, Refusal>
+    ensures met { native_at cursor.old.bytes.now cursor.old.offset ≡ told (λ e. record { value = native_entry_of e; after = cursor.new.offset }) result }
+    ensures lent { cursor.new.bytes.now ≡ cursor.old.bytes.now }
+    ensures fits { IfOk result NativeFits }
+{
+    let start = cursor.offset();
+    let arguments = cursor.pair()?;
+    if arguments > NATIVE_ARGUMENT_LIMIT {
+        return Err(refused(FieldFault::Limit, start));
+    }
+    let index = cursor.pair()?;
+    Ok(NativeEntry { arguments, index })
+}
+
+// Reads a native for each place of a list. It shares no loop with `read_functions`, which counts code and needs main's number.
+pub(crate) fn read_natives<'a>(
+    cursor: &mut Cursor<'a>,
+    natives: &mut [Native<'a>],
+) -> Result<(), Refusal>
+    ensures met { natives_at cursor.old.bytes.now (length natives.old) cursor.old.offset ≡ told (λ _. record { value = map native_entry_of (map native_entry natives.new); after = cursor.new.offset }) result }
+    ensures lent { cursor.new.bytes.now ≡ cursor.old.bytes.now }
+    ensures fit { OnOk result (AllByRecursion NativeFits (map native_entry natives.new)) }
+{
+    for native in natives.iter_mut() {
+        native.entry = read_native(cursor)?;
+    }
+    Ok(())
 }

@@ -1,158 +1,127 @@
 // The sheet of a package: a record of kinds for each function and each native.
-ghost use Rattle.std.specs.Prelude.{◌≡◌, ◌+◌, ◌<◌, ◌≤◌, true, false, map, length, take, IfOk, OnOk, slice_index_or};
-ghost use Rattle.std.specs.List.{AllByRecursion};
+ghost use Rattle.std.specs.Prelude.{◌≡◌, ◌+◌, ◌≤◌, true, map, length, IfOk, OnOk};
+ghost use Rattle.std.specs.List.{AllByRecursion, list_all};
 ghost use Rattle.bytecode.specs.Outcome.{told};
-ghost use Rattle.bytecode.specs.declared.kind.Kind.TheVariants.{Word};
-ghost use Rattle.reader.specs.Fields.{byte as byte_of};
-ghost use Rattle.reader.specs.Layout.{is_letter, are_letters, kind_of, signature_from, record_at, function_sheet_at, function_arguments, native_sheet_at, native_arguments, sheet_at, code_bytes};
-ghost use Rattle.reader.specs.View.{function_entry_of, function_signature_of, native_entry_of, native_signature_of, function_of, native_of, no_function_record, FunctionFits, FunctionBehind, FunctionsFit, FunctionLettered, FunctionsKnown, NativeFits, NativeLettered, NativesKnown, code_size};
+ghost use Rattle.reader.specs.Layout.{is_letter, is_record, record_at, function_sheet_at, function_arguments, native_sheet_at, native_arguments, sheet_at};
+ghost use Rattle.reader.specs.Entries.{sort_number, signature_of, function_entry, function_entry_of, function_of, native_entry, native_entry_of, native_of, FunctionFits, FunctionLettered, MainGives, NativeFits, NativeLettered};
 
-use crate::field::{pair_low, refused};
-use crate::package::{Function, Native};
+use crate::field::{Cursor, refused};
+use crate::package::{Function, Native, Signature, WORD};
 use bytecode::refusal::{FieldFault, Refusal};
 
-// The letters of kinds in a sheet.
-const WORD: u8 = 0x77;
+const REFERENCE: u8 = b'a';
 
-const REFERENCE: u8 = 0x61;
-
-// The number of a record's sort.
-const FUNCTION: usize = 1;
-
-const NATIVE: usize = 2;
-
-fn letter(byte: u8) -> bool
-    ensures { result ≡ is_letter byte }
-{
-    byte == WORD || byte == REFERENCE
+// The sort of a record, by its number.
+#[derive(Clone, Copy)]
+enum Sort {
+    Function = 1,
+    Native = 2,
 }
 
-// Whether so many letters stand at an offset.
-fn letters(bytes: &[u8], offset: usize, count: usize) -> bool
-    requires { offset + count ≤ length bytes.now }
-    ensures { result ≡ are_letters bytes.now offset count }
+fn are_letters(letters: &[u8]) -> bool
+    ensures { result ≡ list_all is_letter letters.now }
 {
-    for i in 0..count {
-        if !letter(bytes[offset + i]) {
-            return false;
-        }
-    }
-    true
+    letters
+        .iter()
+        .all(|letter| *letter == WORD || *letter == REFERENCE)
 }
 
-// A record of a sort for so many arguments, of main or not; answers where its letters stand.
-fn read_record(
-    bytes: &[u8],
-    sort: usize,
+// Whether these bytes are a record of a sort for so many arguments, of main or not.
+fn is_record_of(bytes: &[u8], sort: Sort, main: bool, arguments: usize) -> bool
+    requires few { arguments ≤ 32 }
+    requires long { length bytes.now ≡ 5 + arguments }
+    ensures { result ≡ is_record (sort_number sort) main arguments bytes.now }
+{
+    let length = u16::from_le_bytes([bytes[0], bytes[1]]);
+    let found = u16::from_le_bytes([bytes[2], bytes[3]]);
+    let letters = &bytes[4..];
+    length as usize == 3 + arguments
+        && found == sort as u16
+        && are_letters(letters)
+        && (!main || letters[0] == WORD)
+}
+
+// Reads a record of a sort for so many arguments, of main or not.
+fn read_record<'a>(
+    cursor: &mut Cursor<'a>,
+    sort: Sort,
     main: bool,
     arguments: usize,
-    offset: usize,
-) -> Result<usize, Refusal>
-    requires inside { offset ≤ length bytes.now }
-    requires few { arguments ≤ 32 }
-    ensures met { record_at bytes.now sort main arguments offset ≡ told (λ q. record { value = signature_from bytes.now q arguments; after = q + 1 + arguments }) result }
-    ensures room { IfOk result (λ q. q + 1 + arguments ≤ length bytes.now) }
-    ensures gives { IfOk result (λ q. (main ≡ true → kind_of (byte_of bytes.now q) ≡ Word)) }
+) -> Result<Signature<'a>, Refusal>
+    requires { arguments ≤ 32 }
+    ensures met { record_at cursor.old.bytes.now (sort_number sort) main arguments cursor.old.offset ≡ told (λ s. record { value = signature_of s; after = cursor.new.offset }) result }
+    ensures lent { cursor.new.bytes.now ≡ cursor.old.bytes.now }
+    ensures lettered { IfOk result (λ s. length s.argument_letters.now ≡ arguments) }
+    ensures gives { IfOk result (λ s. main ≡ true → s.result_letter ≡ 0x77) }
 {
-    if bytes.len() - offset < 5 + arguments {
-        return Err(refused(FieldFault::Sheet, offset));
+    let wrong = refused(FieldFault::Sheet, cursor.offset());
+    let Ok(record) = cursor.block(5 + arguments) else {
+        return Err(wrong);
+    };
+    if !is_record_of(record, sort, main, arguments) {
+        return Err(wrong);
     }
-    if pair_low(bytes, offset) != 3 + arguments || pair_low(bytes, offset + 2) != sort {
-        return Err(refused(FieldFault::Sheet, offset));
-    }
-    let kinds = offset + 4;
-    if !letters(bytes, kinds, 1 + arguments) {
-        return Err(refused(FieldFault::Sheet, offset));
-    }
-    if main && bytes[kinds] != WORD {
-        return Err(refused(FieldFault::Sheet, offset));
-    }
-    Ok(kinds)
+    let letters = &record[4..];
+    Ok(Signature {
+        result_letter: letters[0],
+        argument_letters: &letters[1..],
+    })
 }
 
-// Reads the records of so many functions, and sets where the letters of each stand.
-pub(crate) fn read_function_sheet(
-    bytes: &[u8],
-    count: usize,
-    offset: usize,
-    list: &mut [Function; 64],
-) -> Result<usize, Refusal>
-    requires inside { offset ≤ length bytes.now }
-    requires few { count ≤ 64 }
-    requires fit { AllByRecursion (FunctionFits bytes.now) (take count list.old) }
-    requires behind { AllByRecursion (FunctionBehind bytes.now) (take count list.old) }
-    ensures met { function_sheet_at bytes.now count (map function_arguments (map (function_entry_of bytes.now) (take count list.old))) offset ≡ told (λ q. record { value = map (function_signature_of bytes.now) (take count list.new); after = q }) result }
-    ensures room { IfOk result (λ q. q ≤ length bytes.now) }
-    ensures kept { map (function_entry_of bytes.now) (take count list.new) ≡ map (function_entry_of bytes.now) (take count list.old) }
-    ensures fit { AllByRecursion (FunctionFits bytes.now) (take count list.new) }
-    ensures behind { AllByRecursion (FunctionBehind bytes.now) (take count list.new) }
-    ensures lettered { OnOk result (AllByRecursion (FunctionLettered bytes.now) (take count list.new)) }
-    ensures gives { OnOk result ((0 < count → kind_of (byte_of bytes.now (slice_index_or list.new 0 no_function_record).kinds) ≡ Word)) }
-{
-    let mut after = offset;
-    for i in 0..count {
-        let mut function = list[i];
-        let kinds = read_record(bytes, FUNCTION, i == 0, function.arguments as usize, after)?;
-        after = kinds + 1 + function.arguments as usize;
-        function.kinds = kinds;
-        list[i] = function;
-    }
-    Ok(after)
-}
-
-// Reads the records of so many natives, and sets where the letters of each stand.
-pub(crate) fn read_native_sheet(
-    bytes: &[u8],
-    count: usize,
-    offset: usize,
-    list: &mut [Native; 32],
-) -> Result<usize, Refusal>
-    requires inside { offset ≤ length bytes.now }
-    requires few { count ≤ 32 }
-    requires fit { AllByRecursion NativeFits (take count list.old) }
-    ensures met { native_sheet_at bytes.now count (map native_arguments (map native_entry_of (take count list.old))) offset ≡ told (λ q. record { value = map (native_signature_of bytes.now) (take count list.new); after = q }) result }
-    ensures room { IfOk result (λ q. q ≤ length bytes.now) }
-    ensures kept { map native_entry_of (take count list.new) ≡ map native_entry_of (take count list.old) }
-    ensures fit { AllByRecursion NativeFits (take count list.new) }
-    ensures lettered { OnOk result (AllByRecursion (NativeLettered bytes.now) (take count list.new)) }
-{
-    let mut after = offset;
-    for i in 0..count {
-        let mut native = list[i];
-        let kinds = read_record(bytes, NATIVE, false, native.arguments as usize, after)?;
-        after = kinds + 1 + native.arguments as usize;
-        native.kinds = kinds;
-        list[i] = native;
-    }
-    Ok(after)
-}
-
-// Reads the whole sheet of so many functions and natives, with which the package ends.
-pub(crate) fn read_sheet(
-    bytes: &[u8],
-    offset: usize,
-    function_count: usize,
-    functions: &mut [Function; 64],
-    native_count: usize,
-    natives: &mut [Native; 32],
+// Reads the records of functions, and gives each its signature.
+fn read_function_sheet<'a>(
+    cursor: &mut Cursor<'a>,
+    functions: &mut [Function<'a>],
 ) -> Result<(), Refusal>
-    requires inside { offset ≤ length bytes.now }
-    requires some { 0 < function_count }
-    requires few_functions { function_count ≤ 64 }
-    requires few_natives { native_count ≤ 32 }
-    requires functions_fit { FunctionsFit bytes.now (take function_count functions.old) }
-    requires behind { AllByRecursion (FunctionBehind bytes.now) (take function_count functions.old) }
-    requires natives_fit { AllByRecursion NativeFits (take native_count natives.old) }
-    ensures met { sheet_at bytes.now function_count (map (function_entry_of bytes.now) (take function_count functions.old)) native_count (map native_entry_of (take native_count natives.old)) offset ≡ told (λ _. record { functions = map (function_of bytes.now) (take function_count functions.new); natives = map (native_of bytes.now) (take native_count natives.new) }) result }
-    ensures functions_known { OnOk result (FunctionsKnown bytes.now (take function_count functions.new)) }
-    ensures behind { AllByRecursion (FunctionBehind bytes.now) (take function_count functions.new) }
-    ensures natives_known { OnOk result (NativesKnown bytes.now (take native_count natives.new)) }
-    ensures sum { OnOk result (code_size (map (function_of bytes.now) (take function_count functions.new)) ≡ code_bytes (map (function_entry_of bytes.now) (take function_count functions.old))) }
+    requires { AllByRecursion FunctionFits (map function_entry functions.old) }
+    ensures met { function_sheet_at cursor.old.bytes.now (length functions.old) (map function_arguments (map function_entry_of (map function_entry functions.old))) cursor.old.offset ≡ told (λ _. record { value = map (λ f. signature_of f.signature) functions.new; after = cursor.new.offset }) result }
+    ensures lent { cursor.new.bytes.now ≡ cursor.old.bytes.now }
+    ensures kept { map function_entry functions.new ≡ map function_entry functions.old }
+    ensures lettered { OnOk result (AllByRecursion FunctionLettered functions.new) }
+    ensures gives { OnOk result (MainGives functions.new) }
 {
-    let native_sheet = read_function_sheet(bytes, function_count, offset, functions)?;
-    let end = read_native_sheet(bytes, native_count, native_sheet, natives)?;
-    if end != bytes.len() {
-        return Err(refused(FieldFault::Sheet, end));
+    for (index, function) in functions.iter_mut().enumerate() {
+        let arguments = function.entry.arguments as usize;
+        function.signature = read_record(cursor, Sort::Function, index == 0, arguments)?;
+    }
+    Ok(())
+}
+
+// Reads the records of natives, and gives each its signature. One loop for functions too would take a generic pair,
+// a trait with the number of arguments and two impls of it, more than these lines.
+fn read_native_sheet<'a>(cursor: &mut Cursor<'a>, natives: &mut [Native<'a>]) -> Result<(), Refusal>
+    requires { AllByRecursion NativeFits (map native_entry natives.old) }
+    ensures met { native_sheet_at cursor.old.bytes.now (length natives.old) (map native_arguments (map native_entry_of (map native_entry natives.old))) cursor.old.offset ≡ told (λ _. record { value = map (λ f. signature_of f.signature) natives.new; after = cursor.new.offset }) result }
+    ensures lent { cursor.new.bytes.now ≡ cursor.old.bytes.now }
+    ensures kept { map native_entry natives.new ≡ map native_entry natives.old }
+    ensures lettered { OnOk result (AllByRecursion NativeLettered natives.new) }
+{
+    for native in natives.iter_mut() {
+        let arguments = native.entry.arguments as usize;
+        native.signature = read_record(cursor, Sort::Native, false, arguments)?;
+    }
+    Ok(())
+}
+
+// Reads the whole sheet, with which the package ends.
+pub(crate) fn read_sheet<'a>(
+    cursor: &mut Cursor<'a>,
+    functions: &mut [Function<'a>],
+    natives: &mut [Native<'a>],
+) -> Result<(), Refusal>
+    requires functions_fit { AllByRecursion FunctionFits (map function_entry functions.old) }
+    requires natives_fit { AllByRecursion NativeFits (map native_entry natives.old) }
+    ensures met { sheet_at cursor.old.bytes.now (length functions.old) (map function_entry_of (map function_entry functions.old)) (length natives.old) (map native_entry_of (map native_entry natives.old)) cursor.old.offset ≡ told (λ _. record { functions = map function_of functions.new; natives = map native_of natives.new }) result }
+    ensures kept { map function_entry functions.new ≡ map function_entry functions.old }
+    ensures natives_kept { map native_entry natives.new ≡ map native_entry natives.old }
+    ensures lettered { OnOk result (AllByRecursion FunctionLettered functions.new) }
+    ensures gives { OnOk result (MainGives functions.new) }
+    ensures natives_lettered { OnOk result (AllByRecursion NativeLettered natives.new) }
+{
+    read_function_sheet(cursor, functions)?;
+    read_native_sheet(cursor, natives)?;
+    if !cursor.rest().is_empty() {
+        return Err(refused(FieldFault::Sheet, cursor.offset()));
     }
     Ok(())
 }

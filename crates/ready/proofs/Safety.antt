@@ -1,6 +1,7 @@
 -- The next instruction of a ready state is there, and whatever it relies on: its kinds are those of the plan.
-use Rattle.std.proofs.Common.{◌≡◌, ℕ, ◌+◌, ◌-◌, ◌^◌, ◌<◌, ◌≤◌, Bool, true, false, cond, ltb, leb, List, [], ◌∷◌, map, reverse, length, ℤ, is_some, Some, None, Option, sym, refl, ap, ◌∙◌, subst, arith, length-append, ltb-true, leb-true}
-use lib.ListN.{length-reverse}
+use Rattle.std.proofs.Common.{◌≡◌, ℕ, ◌+◌, ◌-◌, ◌^◌, ◌<◌, ◌≤◌, Bool, true, false, cond, leb, List, [], ◌∷◌, map, reverse, length, ℤ, is_some, Some, None, Option, sym, refl, ap, ◌∙◌, subst, arith, length-append, leb-true}
+use Rattle.std.proofs.lemmas.Option.{get_or_from_slice_get, slice_get_within}
+use lib.ListN.{length-map, length-reverse}
 use Rattle.bytecode.specs.declared.kind.Kind.{Kind}
 use Rattle.bytecode.specs.declared.kind.Kind.TheVariants.{Word, Reference as Ref}
 use Rattle.bytecode.specs.declared.instruction.Instruction.{Instruction}
@@ -11,13 +12,13 @@ use Rattle.bytecode.specs.Program.{Program, Function, Native}
 use Rattle.heap.specs.Checked.{Heap}
 use Rattle.plan.specs.Programs.{nth, function_at, variables_at, no_function}
 use Rattle.plan.specs.Shapes.{Shape}
-use Rattle.plan.specs.Effects.{effect, fixed, performed, within, call_static, call_native}
+use Rattle.plan.specs.Effects.{effect, performed, call_static, call_native}
 use Rattle.plan.specs.Plans.{Hits, Lands as Reaches, successors, shape_at}
+use Rattle.plan.proofs.Starting.{size_positive}
 use Rattle.checked.specs.Machine.{Value, word, reference, kind_of, Frame, frame, Conf, conf, Sizes, reserve}
 use Rattle.checked.specs.Law.{Plans, Accepted}
 use Rattle.checked.specs.Sound.{Fits, Callers, main, more, Sound}
-use Rattle.checked.proofs.Stacking.{Kinded, words, refs, kinded_at, Replaced, replaced, loads, stores, pops, doubles, swaps, pairs, gives_result}
-use Rattle.checked.proofs.Pieces.{nth-get_or, nth_within, length-map}
+use Rattle.checked.proofs.Stacking.{Kinded, words, refs, kinded_at, Replaced, replaced, from_pool, loads, stores, pops, doubles, swaps, pairs, gives_result}
 use Rattle.checked.proofs.Sounding.{good_plan, is_function}
 use Rattle.runtime.specs.Runtime.{State, slot}
 use Rattle.runtime.specs.Relation.{flat, Represents, Represented}
@@ -31,52 +32,20 @@ whole_inside code p i e = pick (instruction_of (byte_at code p) (byte_at code (p
   where
     tested : (b : Bool) (j : Instruction) → leb (p + size_of j) (length code) ≡ b → cond b (Some j) None ≡ Some i → p + size_of i ≤ length code
     tested true j q e = let k : j ≡ i = cc in subst (λ i. p + size_of i ≤ length code) k (leb-true (p + size_of j) (length code) q)
-    tested false j q e = absurd (let z : ◌≡◌ {A = ℕ} 0 1 = cc in let b : ⊥ = omega arith in b)
+    tested false j q e = cc
 
     pick : (o : Option Instruction) → whole code p o ≡ Some i → p + size_of i ≤ length code
-    pick None e = absurd (let z : ◌≡◌ {A = ℕ} 0 1 = cc in let b : ⊥ = omega arith in b)
+    pick None e = cc
     pick (Some j) e = tested (leb (p + size_of j) (length code)) j refl e
-
--- every instruction has a byte
-pub some_size : (i : Instruction) → 1 ≤ size_of i
-some_size Nop = omega arith
-some_size Pop = omega arith
-some_size Dup = omega arith
-some_size Swap = omega arith
-some_size AconstNull = omega arith
-some_size (Aldc c) = omega arith
-some_size (Bipush b) = omega arith
-some_size (Ildc c) = omega arith
-some_size (Vload i) = omega arith
-some_size (Vstore i) = omega arith
-some_size (Binary op) = omega arith
-some_size (IfCmpeq o) = omega arith
-some_size (IfCmpne o) = omega arith
-some_size (IfIcmp order o) = omega arith
-some_size (Goto o) = omega arith
-some_size (Invokestatic c) = omega arith
-some_size (Invokenative c) = omega arith
-some_size Return = omega arith
-some_size (New b) = omega arith
-some_size (Newarray b) = omega arith
-some_size Arraylength = omega arith
-some_size (Aaddf b) = omega arith
-some_size Aadds = omega arith
-some_size Imload = omega arith
-some_size Cmload = omega arith
-some_size Amload = omega arith
-some_size Imstore = omega arith
-some_size Cmstore = omega arith
-some_size Amstore = omega arith
 
 module _ (P : Program) (plans : Plans) (ok : Accepted P plans) (sizes : Sizes) (f p : ℕ) (vs : List (Option Value)) (st : List Value)
     (rest : List Frame) (h : Heap) (l : State) (d : Fits P plans f p vs (map kind_of st)) (callers : Callers P plans f rest)
     (r : Represents P sizes f p vs st rest h l) where
   depth : length st ≡ length d.shape.stack
-  depth = sym (length-map kind_of st) ∙ ap length (sym d.stack)
+  depth = sym (length-map st kind_of) ∙ ap length (sym d.stack)
 
   low : length st ≤ 32
-  low = let a = stack_low P plans ok f p vs (map kind_of st) d in let b = length-map kind_of st in omega arith
+  low = let a = stack_low P plans ok f p vs (map kind_of st) d in let b = length-map st kind_of in omega arith
 
   -- the stack lies below the top
   deep : length st ≤ l.top
@@ -116,15 +85,6 @@ module _ (P : Program) (plans : Plans) (ok : Accepted P plans) (sizes : Sizes) (
       pick None hit = absurd hit
       pick (Some to) hit = refl
 
-  inside : (c count : ℕ) (k : Kind) (x : Shape) → performed f p (variables_at P f) d.shape (within c count (fixed [] (k ∷ []))) ≡ good x
-      → Room l × (c < count)
-  inside c count k x e = pick (ltb c count) refl e
-    where
-      pick : (b : Bool) → ltb c count ≡ b → performed f p (variables_at P f) d.shape (cond b (Some (fixed [] (k ∷ []))) None) ≡ good x
-          → Room l × (c < count)
-      pick false q h = absurd (let z : ◌≡◌ {A = ℕ} 0 1 = cc in let b : ⊥ = omega arith in b)
-      pick true q h = (room_one k x (replaced f p (variables_at P f) [] (k ∷ []) d.shape x h), ltb-true c count q)
-
   before : (ks : List Kind) → d.shape.stack ≡ ks → Kinded st ks
   before ks e = kinded_at st ks (sym d.stack ∙ e)
 
@@ -154,32 +114,32 @@ module _ (P : Program) (plans : Plans) (ok : Accepted P plans) (sizes : Sizes) (
 
   calls : (c : ℕ) (x : Shape) (o : Option Function) → nth P.functions c ≡ o → performed f p (variables_at P f) d.shape (call_static o) ≡ good x
       → (c < length P.functions) × (length (function_at P c).signature.arguments ≤ l.top) × (variables_at P c ≤ 32)
-  calls c x None known e = absurd (let z : ◌≡◌ {A = ℕ} 0 1 = cc in let b : ⊥ = omega arith in b)
+  calls c x None known e = cc
   calls c x (Some g) known e =
       let y = replaced f p (variables_at P f) (reverse g.signature.arguments) (g.signature.result ∷ []) d.shape x e in
       let a = ap length y.before ∙ length-append (reverse g.signature.arguments) y.rest in
       let b = length-reverse g.signature.arguments in
       let n : length g.signature.arguments ≤ l.top = (let i = depth in let j = deep in omega arith) in
-      let is : function_at P c ≡ g = nth-get_or P.functions c g no_function known in (
-        nth_within P.functions c g known,
+      let is : function_at P c ≡ g = get_or_from_slice_get P.functions c g no_function known in (
+        slice_get_within P.functions c g known,
         subst (λ k. length k.signature.arguments ≤ l.top) (sym is) n,
         subst (λ k. k.variables ≤ 32) (sym is) (ok.formed.functions c g known).few,
       )
 
   natives : (c : ℕ) (x : Shape) (o : Option Native) → nth P.natives c ≡ o → performed f p (variables_at P f) d.shape (call_native o) ≡ good x
       → Safe P (Invokenative c) l
-  natives c x None known e = absurd (let z : ◌≡◌ {A = ℕ} 0 1 = cc in let b : ⊥ = omega arith in b)
+  natives c x None known e = cc
   natives c x (Some m) known e =
       let y = replaced f p (variables_at P f) (reverse m.signature.arguments) (m.signature.result ∷ []) d.shape x e in
       let a = ap length y.before ∙ length-append (reverse m.signature.arguments) y.rest in
       let b = length-reverse m.signature.arguments in
       let k = ap length y.after in
       let w = y.low in
-      let is : native_at P c ≡ m = nth-get_or P.natives c m no_native known in
+      let is : native_at P c ≡ m = get_or_from_slice_get P.natives c m no_native known in
       let n : length m.signature.arguments ≤ l.top = (let i = depth in let j = deep in omega arith) in
       let q : l.top - length m.signature.arguments < length l.slots =
       (let i = depth in let j = flat_length f p vs st rest in let t = r.top in let u = enough in omega arith) in (
-        nth_within P.natives c m known,
+        slice_get_within P.natives c m known,
         subst (λ z. length z.signature.arguments ≤ l.top) (sym is) n,
         subst (λ z. l.top - length z.signature.arguments < length l.slots) (sym is) q,
       )
@@ -193,7 +153,7 @@ module _ (P : Program) (plans : Plans) (ok : Accepted P plans) (sizes : Sizes) (
 
       pick : (g : ℕ) (rs : List Frame) → Callers P plans g rs → length rs ≡ 0 → g ≡ f → slot l (l.top - 1) < 2 ^ 32
       pick g rs main z eq = only st (before (Word ∷ []) (e ∙ ap (λ k. (function_at P k).signature.result ∷ []) (sym eq) ∙ ap (λ k. k ∷ []) ok.word)) r
-      pick g rs (more w ws) z eq = absurd (let b : ⊥ = omega arith in b)
+      pick g rs (more w ws) z eq = absurd (omega arith)
 
   returns : d.shape.stack ≡ (function_at P f).signature.result ∷ [] → Safe P Return l
   returns e =
@@ -205,7 +165,7 @@ module _ (P : Program) (plans : Plans) (ok : Accepted P plans) (sizes : Sizes) (
       let v : variables_at P f + 32 ≤ l.reserved = (let m = r.reserves in omega arith) in (
         let i = depth in let j = deep in omega arith,
         omega arith,
-        subst (λ g. g < length P.functions) (sym r.function) (nth_within P.functions f d.self d.known),
+        subst (λ g. g < length P.functions) (sym r.function) (slice_get_within P.functions f d.self d.known),
         subst (λ g. variables_at P g + 32 ≤ l.reserved) (sym r.function) v,
         last_word e,
       )
@@ -220,9 +180,9 @@ module _ (P : Program) (plans : Plans) (ok : Accepted P plans) (sizes : Sizes) (
       (n, room_for y.kind x (let a = y.after in let b = y.before in cc) y.low)
   safe Swap x e w = let y = swaps f p (variables_at P f) d.shape x e in let a = ap length y.before in let b = depth in let c = deep in omega arith
   safe AconstNull x e w = room_one Ref x (replaced f p (variables_at P f) [] (Ref ∷ []) d.shape x e)
-  safe (Aldc c) x e w = (inside c (length P.strings) Ref x e).0
+  safe (Aldc c) x e w = room_one Ref x (from_pool f p (variables_at P f) c (length P.strings) Ref d.shape x e).1
   safe (Bipush b) x e w = room_one Word x (replaced f p (variables_at P f) [] (Word ∷ []) d.shape x e)
-  safe (Ildc c) x e w = inside c (length P.integers) Word x e
+  safe (Ildc c) x e w = let y = from_pool f p (variables_at P f) c (length P.integers) Word d.shape x e in (room_one Word x y.1, y.0)
   safe (Vload i) x e w =
       let y = loads f p (variables_at P f) i d.shape x e in
       (room_for y.kind x y.after y.low, variable i y.inside)
@@ -284,11 +244,11 @@ fetched P l o = at o.checked o.sound o.represented
         subst (λ g. decode_at (function_at P g).code l.place ≡ Some x.instruction) (sym r.function)
         (ap (decode_at (function_at P f).code) r.place ∙ x.decoded) in
         let whole = whole_inside (function_at P l.function).code l.place x.instruction decoded in
-        let some = some_size x.instruction in
+        let some = size_positive x.instruction in
         let few : length (function_at P l.function).code ≤ 4096 =
         subst (λ g. length (function_at P g).code ≤ 4096) (sym r.function) (subst (λ g. length g.code ≤ 4096) (sym self) (o.short f d.self d.known)) in
         record {
-          function = subst (λ g. g < length P.functions) (sym r.function) (nth_within P.functions f d.self d.known);
+          function = subst (λ g. g < length P.functions) (sym r.function) (slice_get_within P.functions f d.self d.known);
           instruction = x.instruction;
           decoded = decoded;
           inside = omega arith;

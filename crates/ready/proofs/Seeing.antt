@@ -1,10 +1,10 @@
 -- The frames of a ready state: each has a function that is there, and its variables before its end.
 use Rattle.std.proofs.Common.{◌≡◌, ℕ, zero, suc, ◌-◌, ◌<◌, List, ◌∷◌, length, get_or, Option, sym, refl, ap, ◌∙◌, subst, subst₂, arith}
+use Rattle.std.proofs.lemmas.Option.{slice_get_within}
 use Rattle.bytecode.specs.Program.{Program}
 use Rattle.checked.specs.Machine.{Value, Frame, frame, Conf, conf}
 use Rattle.checked.specs.Law.{Plans, Accepted}
 use Rattle.checked.specs.Sound.{Fits, Callers, main, more, Sound}
-use Rattle.checked.proofs.Pieces.{nth_within}
 use Rattle.checked.proofs.Sounding.{is_function}
 use Rattle.bytecode.specs.declared.kind.Kind.{Kind}
 use Rattle.runtime.specs.declared.FrameRecord.{FrameRecord}
@@ -21,7 +21,7 @@ module _ (P : Program) (plans : Plans) (ok : Accepted P plans) where
       let self = ap (λ g. g.variables) (is_function P plans ok f d.self d.known) in
       let a = flat_length f p vs st rest in
       let b = d.sized in
-      (nth_within P.functions f d.self d.known, omega arith)
+      (slice_get_within P.functions f d.self d.known, omega arith)
 
   -- where caller j ends, of n callers below a frame that begins at `base`
   abbrev upper : List FrameRecord → ℕ → ℕ → ℕ → ℕ
@@ -38,7 +38,7 @@ module _ (P : Program) (plans : Plans) (ok : Accepted P plans) where
 
   callers_inside : (recs : List FrameRecord) (g : ℕ) (fs : List Frame) → Callers P plans g fs → Records recs fs → (j : ℕ) → j < length fs
       → Inside recs (length fs) (length (flat fs)) j
-  callers_inside recs g fs main h j lt = absurd (let b : ⊥ = omega arith in b)
+  callers_inside recs g fs main h j lt = absurd (omega arith)
   callers_inside recs g fs (more {f = f} {p = p} {vs = vs} {st = st} {rest = rest} w ws) h zero lt =
       let e : get_or recs (suc (length rest) - 1) no_frame ≡ record { function = f; place = p; base = length (flat rest) } =
       ap (λ i. get_or recs i no_frame) (let q : suc (length rest) - 1 ≡ length rest = omega arith in q) ∙ h.0 in

@@ -1,5 +1,6 @@
 -- A step of a ready state does not break, and the state that it goes on to is ready.
-use Rattle.std.proofs.Common.{◌≡◌, ℕ, ◌+◌, ◌^◌, ◌<◌, length, Some, sym, ap, ◌∙◌, subst, arith}
+use Rattle.std.proofs.Common.{◌≡◌, ℕ, ◌+◌, ◌^◌, ◌<◌, length, Some, sym, ap, ◌∙◌, subst}
+use Rattle.std.proofs.lemmas.Option.{get_or_from_slice_get}
 use Rattle.bytecode.specs.declared.instruction.Instruction.{Instruction}
 use Rattle.bytecode.specs.Instructions.{size_of, decode_at}
 use Rattle.bytecode.specs.Program.{Program}
@@ -7,7 +8,7 @@ use Rattle.host.specs.Hosts.{Host, Lawful}
 use Rattle.plan.specs.Programs.{nth, function_at, no_function}
 use Rattle.checked.specs.Runs.{Next, goes}
 use Rattle.checked.specs.Machine.{frame, Conf, conf, Sizes}
-use Rattle.checked.proofs.Pieces.{nth_some, nth-get_or}
+use Rattle.checked.proofs.Pieces.{nth_some}
 use Rattle.checked.proofs.Sounding.{Fine, step_fine}
 use Rattle.runtime.specs.Runtime.{State, act, acted, fetched as fetches, step}
 use Rattle.runtime.specs.Relation.{Represented, Same, go, end, stop}
@@ -16,7 +17,7 @@ use Rattle.ready.specs.Ready.{Ready, Whole}
 
 -- the function with a number below the count
 pub nth_function : (P : Program) (f : ℕ) → f < length P.functions → nth P.functions f ≡ Some (function_at P f)
-nth_function P f lt = let g = nth_some P.functions f lt in g.1 ∙ ap Some (sym (nth-get_or P.functions f g.0 no_function g.1))
+nth_function P f lt = let g = nth_some P.functions f lt in g.1 ∙ ap Some (sym (get_or_from_slice_get P.functions f g.0 no_function g.1))
 
 -- a step is its instruction's
 pub step_is : {S : Type 0} (P : Program) (host : Host S) (l : State) (s : S) (i : Instruction) → l.function < length P.functions
@@ -44,8 +45,8 @@ same_goes R m t (go {c} {d} {s} r) e =
     let q : d ≡ m = cc in
     let u : s ≡ t = cc in
     record { conf = c; same = ap (goes c) u; related = subst (R c) q r }
-same_goes R m t end e = absurd (let z : ◌≡◌ {A = ℕ} 0 1 = cc in let b : ⊥ = omega arith in b)
-same_goes R m t stop e = absurd (let z : ◌≡◌ {A = ℕ} 0 1 = cc in let b : ⊥ = omega arith in b)
+same_goes R m t end e = cc
+same_goes R m t stop e = cc
 
 slots_are : (P : Program) (sizes : Sizes) (c : Conf) (l : State) → Represented P sizes c l → length l.slots ≡ sizes.slots
 slots_are P sizes (conf (frame f p vs st) rest h) l r = r.slot_count

@@ -7,7 +7,7 @@ use Rattle.bytecode.specs.Instructions.{size_of, decode_at, target}
 use Rattle.bytecode.specs.Program.{Program, Function, Native}
 use Rattle.plan.specs.Programs.{nth, function_at, variables_at}
 use Rattle.heap.specs.Storage.{Known, Sound as SoundStorage}
-use Rattle.checked.specs.Runs.{Next, goes, ends, stops, breaks}
+use Rattle.checked.specs.Runs.{Next, breaks}
 use Rattle.checked.specs.Machine.{Conf, Sizes}
 use Rattle.checked.specs.Law.{Plans, Accepted}
 use Rattle.checked.specs.Sound.{Sound}
@@ -64,10 +64,8 @@ native_at P c = slice_index_or P.natives c no_native
 
 -- a step that does not break
 abbrev pub Whole : {S : Type 0} → Next State S → Type 0
-Whole (goes m s) = Unit {0}
-Whole (ends w s) = Unit {0}
-Whole (stops e s) = Unit {0}
 Whole (breaks s) = ⊥
+Whole x = Unit {0}
 
 -- of the state before an instruction: values and variables that it takes are there, and so is the room for what it gives
 abbrev pub Safe : Program → Instruction → State → Type 0

@@ -1,10 +1,13 @@
 -- Calls, returns and natives: the running machine does what the checked machine does.
 use Rattle.std.proofs.Common.{◌≡◌, ℕ, zero, suc, ◌+◌, ◌-◌, ◌%◌, ◌^◌, ◌<◌, ◌≤◌, Bool, true, false, cond, eqb, ltb, leb, List, [], ◌∷◌, ◌++◌, map, reverse, length, get_or, set, replicate, Some, None, Option, sym, refl, ap, ◌∙◌, subst, ap₂, subst₂, append_assoc, arith, length-append, length-set, get_or-set_same, ltb-true, le-ltb, lt-ltb, leb-true}
-use lib.ListN.{length-replicate, length-reverse}
+use Rattle.std.specs.List.{AllByRecursion}
+use Rattle.std.specs.Option.{option_map}
+use Rattle.std.proofs.lemmas.Option.{slice_get-map}
+use lib.ListN.{length-map, length-replicate, length-reverse}
 use borrow.Author.Tests.{eqb-false}
 use Rattle.std.proofs.lemmas.List.{append-nil}
 use Rattle.bytecode.specs.declared.kind.Kind.{Kind}
-use Rattle.bytecode.specs.declared.kind.Kind.TheVariants.{Unknown, Word, Reference as Ref}
+use Rattle.bytecode.specs.declared.kind.Kind.TheVariants.{Word, Reference as Ref}
 use Rattle.bytecode.specs.declared.stop.Stop.TheVariants.{Calls, Native as NoNative}
 use Rattle.bytecode.specs.Program.{Program, Function, Native}
 use Rattle.heap.specs.Checked.{Heap, Reference, null, text, block}
@@ -16,7 +19,7 @@ use Rattle.plan.specs.Programs.{nth}
 use Rattle.checked.specs.Runs.{Next, goes, ends, stops as halts, breaks}
 use Rattle.checked.specs.Machine.{Value, word, reference, kind_of, Frame, frame, Conf, conf, Sizes, reserve, reserved, agrees, references, room_for, resume, enter, return, answered, ask}
 use Rattle.checked.specs.Machine as checked
-use Rattle.checked.proofs.Pieces.{length-map, agrees_is, nth_some}
+use Rattle.checked.proofs.Pieces.{agrees_is, nth_some}
 use Rattle.checked.proofs.Stacking.{arguments_fit, count_references_lem}
 use Rattle.runtime.specs.declared.FrameRecord.{FrameRecord}
 use Rattle.runtime.specs.Runtime.{State, no_frame, slot, pushed, entered, left as leaves, Came, went, gave, halted, called, returned, argument_of, arguments_from, numbers_from, text_of, text_in, first_argument, numbers_of, call_of, handed, replied, lifted, asked}
@@ -181,7 +184,7 @@ module _ (P : Program) (sizes : Sizes) {S : Type 0} (f p : ℕ) (vs : List (Opti
       last : (v : Value) → Represents P sizes f p vs (v ∷ []) [] h l → kind_of v ≡ Word → Same (Represented P sizes) (return v [] h s) (ends (slot l (l.top - 1)) s)
       last (word n) r e =
           subst (λ m. Same (Represented P sizes) (ends n s) (ends m s)) (sym (one P sizes f p vs [] h l s (word n) [] r).stood.0) end
-      last (reference a) r e = absurd (let z : ◌≡◌ {A = ℕ} 0 1 = cc in let b : ⊥ = omega arith in b)
+      last (reference a) r e = cc
   return_same v (frame e q us t ∷ fs) r low main inside =
       subst₂ (λ a b. Same (Represented P sizes) (cond a (resume e q us (v ∷ t) fs h s) (breaks s)) (lifted s (cond b (went (leaves l g (get_or l.frames (l.callers - 1) no_frame) (slot l (l.top - 1)))) (gave (slot l (l.top - 1))))))
       (sym (lt-ltb (length t) 32 (low e q us t fs refl))) (sym (lt-ltb 0 l.callers (let a = r.callers in omega arith)))
@@ -246,24 +249,15 @@ numbers_same count (reference r ∷ args) mem i h =
     let b = numbers_same count args mem (suc i) h.1 in
     cc
 
-abbrev AllKnown : ℕ → List ℕ → Type 0
-AllKnown count [] = Unit {0}
-AllKnown count (n ∷ ns) = Known count n × AllKnown count ns
-
-numbers_known : (count : ℕ) (args : List Value) (mem : List ℕ) (i : ℕ) → ArgumentsAt count args mem i → AllKnown count (numbers_from (map kind_of args) mem i)
+numbers_known : (count : ℕ) (args : List Value) (mem : List ℕ) (i : ℕ) → ArgumentsAt count args mem i → AllByRecursion (Known count) (numbers_from (map kind_of args) mem i)
 numbers_known count [] mem i h = tt
 numbers_known count (word w ∷ args) mem i h = numbers_known count args mem (suc i) h.1
 numbers_known count (reference r ∷ args) mem i h = (h.0.1, numbers_known count args mem (suc i) h.1)
 
-known_nth : (count : ℕ) (ns : List ℕ) (j n : ℕ) → AllKnown count ns → nth ns j ≡ Some n → Known count n
-known_nth count [] j n h e = absurd (let z : ◌≡◌ {A = ℕ} 0 1 = cc in let b : ⊥ = omega arith in b)
+known_nth : (count : ℕ) (ns : List ℕ) (j n : ℕ) → AllByRecursion (Known count) ns → nth ns j ≡ Some n → Known count n
+known_nth count [] j n h e = cc
 known_nth count (m ∷ ns) zero n h e = let q : m ≡ n = cc in subst (Known count) q h.0
 known_nth count (m ∷ ns) (suc j) n h e = known_nth count ns j n h.1 e
-
-nth_map : {A B : Type 0} (g : A → B) (xs : List A) (i : ℕ) (x : A) → nth xs i ≡ Some x → nth (map g xs) i ≡ Some (g x)
-nth_map g [] i x e = absurd (let z : ◌≡◌ {A = ℕ} 0 1 = cc in let b : ⊥ = omega arith in b)
-nth_map g (y ∷ xs) zero x e = let q : y ≡ x = cc in ap (λ z. Some (g z)) q
-nth_map g (y ∷ xs) (suc i) x e = nth_map g xs i x e
 
 text_in-same : (strings : List ℕ) (ns : List ℕ) (i : ℕ) → checked.text_in strings (nth (map reference_of ns) i) ≡ text_in strings (nth ns i)
 text_in-same strings [] i = refl
@@ -286,8 +280,8 @@ module _ (P : Program) (sizes : Sizes) {S : Type 0} (host : Host S) (lawful : La
   first_is =
       let a = r.top in
       let b = ap length spread ∙ length-append (flat (frame f p vs left ∷ rest)) (map Some args) in
-      let c = length-map {B = Option Value} Some args in
-      let d = ap length (sym kinds) ∙ length-map kind_of args in
+      let c = length-map args (λ v. Some v) in
+      let d = ap length (sym kinds) ∙ length-map args kind_of in
       omega arith
 
   there : ArgumentsAt l.storage.count args l.slots (first_argument l n)
@@ -296,8 +290,8 @@ module _ (P : Program) (sizes : Sizes) {S : Type 0} (host : Host S) (lawful : La
   numbers_are : references args ≡ map reference_of (numbers_of l n)
   numbers_are = numbers_same l.storage.count args l.slots (first_argument l n) there ∙ ap (λ k. map reference_of (numbers_from k l.slots (first_argument l n))) kinds
 
-  numbers_known_are : AllKnown l.storage.count (numbers_of l n)
-  numbers_known_are = subst (λ k. AllKnown l.storage.count (numbers_from k l.slots (first_argument l n))) kinds (numbers_known l.storage.count args l.slots (first_argument l n) there)
+  numbers_known_are : AllByRecursion (Known l.storage.count) (numbers_of l n)
+  numbers_known_are = subst (λ k. AllByRecursion (Known l.storage.count) (numbers_from k l.slots (first_argument l n))) kinds (numbers_known l.storage.count args l.slots (first_argument l n) there)
 
   call_same : call_of P l n ≡ checked.call_of P n args
   call_same =
@@ -318,15 +312,14 @@ module _ (P : Program) (sizes : Sizes) {S : Type 0} (host : Host S) (lawful : La
   reply_same : (u : S) {k : Kind} {c : ℕ} {reply : Reply} → Suits k c reply → c ≡ length (references args)
       → Same (Represented P sizes) (answered k reply (references args) u (λ v. resume f q vs (v ∷ left) rest h u)) (lifted u (replied l q n reply))
   reply_same u (Suits.word {w = w} lt) e = answer u (word w) w (refl, lt)
-  reply_same u Suits.null e = answer u (reference null) 0 (refl, λ big. absurd (let b : ⊥ = omega arith in b))
+  reply_same u Suits.null e = answer u (reference null) 0 (refl, λ big. absurd (omega arith))
   reply_same u (Suits.argument {i = i} lt) e =
       let ns = numbers_of l n in
-      let size : length (map reference_of ns) ≡ length ns = length-map reference_of ns in
+      let size : length (map reference_of ns) ≡ length ns = length-map ns reference_of in
       let x = nth_some ns i (let a = ap length numbers_are in omega arith) in
-      let a : nth (references args) i ≡ Some (reference_of x.0) = ap (λ k. nth k i) numbers_are ∙ nth_map reference_of ns i x.0 x.1 in
+      let a : nth (references args) i ≡ Some (reference_of x.0) = ap (λ k. nth k i) numbers_are ∙ (slice_get-map reference_of ns i ∙ ap (option_map reference_of) x.1) in
       subst₂ (λ o w. Same (Represented P sizes) (checked.found o u (λ z. resume f q vs (reference z ∷ left) rest h u)) (lifted u (handed l q (first_argument l n) w))) (sym a) (sym x.1)
       (answer u (reference (reference_of x.0)) x.0 (refl, known_nth l.storage.count ns i x.0 numbers_known_are x.1))
-  reply_same u (Suits.stop {k = Unknown}) e = stop
   reply_same u (Suits.stop {k = Word}) e = stop
   reply_same u (Suits.stop {k = Ref}) e = stop
 

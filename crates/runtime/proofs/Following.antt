@@ -1,5 +1,5 @@
 -- Two machines whose steps come to the same are the same over every list of requests, and over every list of turns with one host.
-use Rattle.std.proofs.Common.{◌≡◌, ℕ, zero, suc, ◌-◌, List, [], ◌∷◌, None, sym, refl, ap, ◌∙◌, subst, ap₂, arith}
+use Rattle.std.proofs.Common.{◌≡◌, ℕ, zero, suc, ◌-◌, List, [], ◌∷◌, None, sym, refl, ap, ◌∙◌, subst, ap₂}
 use Rattle.bytecode.specs.declared.stop.Stop.{Stop}
 use Rattle.host.specs.Hosts.{Host, Lawful}
 use Rattle.checked.specs.Runs.{Next, Status, live, ended, stopped, Served, served, after, advance, iterate, Request, run, look, Answer, response, shown, Machine, tells, handle, ran, looked, respond, handle_all, responses, Turn, serve}
@@ -85,24 +85,11 @@ module _ {C D S : Type 0} (R : C → D → Type 0) where
       (r.0, (λ i. record { machine = r.1 i; host = (b.host ∙ ap (λ z. z.host) q) i }), r.2)
     where
       pick : (u : Status C) (v : Status D) → Alike R u v → v ≡ ended n w d → (c : C) × (u ≡ ended n w c) × R c d
-      pick u v (lives r) q = absurd (let z : ◌≡◌ {A = ℕ} 0 1 = cc in let f : ⊥ = omega arith in f)
+      pick u v (lives r) q = cc
       pick u v (done {n = m} {w = g} {c = c} {d = k} r) q =
           let a : m ≡ n = cc in let b : g ≡ w = cc in let j : k ≡ d = cc in
           (c, ap₂ (λ i z. ended i z c) a b, subst (R c) j r)
-      pick u v (halts r) q = absurd (let z : ◌≡◌ {A = ℕ} 0 1 = cc in let f : ⊥ = omega arith in f)
-
-  pub both_ended : {x : Served C S} {y : Served D S} → Both x y → (n w : ℕ) (c : C) (t : S) → x ≡ served (ended n w c) t
-      → (d : D) × (y ≡ served (ended n w d) t) × R c d
-  both_ended {x} {y} b n w c t q =
-      let r = pick x.machine y.machine b.machine (ap (λ z. z.machine) q) in
-      (r.0, (λ i. record { machine = r.1 i; host = (sym b.host ∙ ap (λ z. z.host) q) i }), r.2)
-    where
-      pick : (u : Status C) (v : Status D) → Alike R u v → u ≡ ended n w c → (d : D) × (v ≡ ended n w d) × R c d
-      pick u v (lives r) q = absurd (let z : ◌≡◌ {A = ℕ} 0 1 = cc in let f : ⊥ = omega arith in f)
-      pick u v (done {n = m} {w = g} {c = k} {d = d} r) q =
-          let a : m ≡ n = cc in let b : g ≡ w = cc in let j : k ≡ c = cc in
-          (d, ap₂ (λ i z. ended i z d) a b, subst (λ z. R z d) j r)
-      pick u v (halts r) q = absurd (let z : ◌≡◌ {A = ℕ} 0 1 = cc in let f : ⊥ = omega arith in f)
+      pick u v (halts r) q = cc
 
   -- stopped at states that belong together
   pub stopped_both : {x : Served C S} {y : Served D S} → Both x y → (n : ℕ) (e : Stop) (d : D) (t : S) → y ≡ served (stopped n e d) t
@@ -112,24 +99,29 @@ module _ {C D S : Type 0} (R : C → D → Type 0) where
       (r.0, (λ i. record { machine = r.1 i; host = (b.host ∙ ap (λ z. z.host) q) i }), r.2)
     where
       pick : (u : Status C) (v : Status D) → Alike R u v → v ≡ stopped n e d → (c : C) × (u ≡ stopped n e c) × R c d
-      pick u v (lives r) q = absurd (let z : ◌≡◌ {A = ℕ} 0 1 = cc in let f : ⊥ = omega arith in f)
-      pick u v (done r) q = absurd (let z : ◌≡◌ {A = ℕ} 0 1 = cc in let f : ⊥ = omega arith in f)
+      pick u v (lives r) q = cc
+      pick u v (done r) q = cc
       pick u v (halts {n = m} {e = g} {c = c} {d = k} r) q =
           let a : m ≡ n = cc in let b : g ≡ e = cc in let w : k ≡ d = cc in
           (c, ap₂ (λ i j. stopped i j c) a b, subst (R c) w r)
 
-  pub both_stopped : {x : Served C S} {y : Served D S} → Both x y → (n : ℕ) (e : Stop) (c : C) (t : S) → x ≡ served (stopped n e c) t
+-- the other way round
+alike_turned : {C D : Type 0} (R : C → D → Type 0) {x : Status C} {y : Status D} → Alike R x y → Alike (λ d c. R c d) y x
+alike_turned R (lives r) = lives r
+alike_turned R (done r) = done r
+alike_turned R (halts r) = halts r
+
+module _ {C D S : Type 0} (R : C → D → Type 0) where
+  both_turned : {x : Served C S} {y : Served D S} → Both R x y → Both (λ d c. R c d) y x
+  both_turned b = record { machine = alike_turned R b.machine; host = sym b.host }
+
+  pub both_ended : {x : Served C S} {y : Served D S} → Both R x y → (n w : ℕ) (c : C) (t : S) → x ≡ served (ended n w c) t
+      → (d : D) × (y ≡ served (ended n w d) t) × R c d
+  both_ended b = ended_both (λ d c. R c d) (both_turned b)
+
+  pub both_stopped : {x : Served C S} {y : Served D S} → Both R x y → (n : ℕ) (e : Stop) (c : C) (t : S) → x ≡ served (stopped n e c) t
       → (d : D) × (y ≡ served (stopped n e d) t) × R c d
-  both_stopped {x} {y} b n e c t q =
-      let r = pick x.machine y.machine b.machine (ap (λ z. z.machine) q) in
-      (r.0, (λ i. record { machine = r.1 i; host = (sym b.host ∙ ap (λ z. z.host) q) i }), r.2)
-    where
-      pick : (u : Status C) (v : Status D) → Alike R u v → u ≡ stopped n e c → (d : D) × (v ≡ stopped n e d) × R c d
-      pick u v (lives r) q = absurd (let z : ◌≡◌ {A = ℕ} 0 1 = cc in let f : ⊥ = omega arith in f)
-      pick u v (done r) q = absurd (let z : ◌≡◌ {A = ℕ} 0 1 = cc in let f : ⊥ = omega arith in f)
-      pick u v (halts {n = m} {e = g} {c = k} {d = d} r) q =
-          let a : m ≡ n = cc in let b : g ≡ e = cc in let w : k ≡ c = cc in
-          (d, ap₂ (λ i j. stopped i j d) a b, subst (λ z. R z d) w r)
+  both_stopped b = stopped_both (λ d c. R c d) (both_turned b)
 
 -- what is alike by a relation is alike by a weaker one
 pub alike_weaker : {C D : Type 0} (R Q : C → D → Type 0) → ((c : C) (d : D) → R c d → Q c d) → {x : Status C} {y : Status D} → Alike R x y → Alike Q x y

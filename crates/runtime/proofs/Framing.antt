@@ -1,12 +1,11 @@
 -- The slots of frames: one value more or less, variables, a new frame and a frame that is left; and how much frames take.
 use Rattle.std.proofs.Common.{◌≡◌, ℕ, ◌+◌, ◌<◌, ◌≤◌, List, [], ◌∷◌, ◌++◌, map, reverse, length, get_or, set, replicate, Some, None, Option, sym, ap, ◌∙◌, append_assoc, arith, length-append, get_or-set_other}
-use lib.ListN.{length-reverse}
+use lib.ListN.{length-map, length-reverse}
 use Rattle.std.proofs.lemmas.List.{map-append, reverse-append, reverse-reverse, append-nil}
 use Rattle.bytecode.specs.Program.{Program}
 use Rattle.checked.specs.Machine.{Value, kind_of, Frame, frame, reserve, reserved}
 use Rattle.checked.specs.Law.{Plans, Accepted}
 use Rattle.checked.specs.Sound.{Fits, Callers, main, more}
-use Rattle.checked.proofs.Pieces.{length-map}
 use Rattle.checked.proofs.Sounding.{good_plan}
 use Rattle.runtime.specs.declared.FrameRecord.{FrameRecord}
 use Rattle.runtime.specs.Runtime.{no_frame}
@@ -20,7 +19,7 @@ pub flat_length : (f p : ℕ) (vs : List (Option Value)) (st : List Value) (rest
 flat_length f p vs st rest =
     let a = length-append (flat rest) (vs ++ map Some (reverse st)) in
     let b = length-append vs (map Some (reverse st)) in
-    let c = length-map {B = Option Value} Some (reverse st) in
+    let c = length-map (reverse st) (λ v. Some v) in
     let d = length-reverse st in
     omega arith
 
@@ -81,7 +80,7 @@ module _ (P : Program) (plans : Plans) (ok : Accepted P plans) where
       let a = taken_slots f rest ws in
       let b = flat_length f p vs st rest in
       let c = stack_low f p vs _ w in
-      let d = length-map kind_of st in
+      let d = length-map st kind_of in
       let e = ap reserve w.known in
       let n = w.sized in
       omega arith

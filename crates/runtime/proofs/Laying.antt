@@ -8,7 +8,7 @@ use Rattle.runtime.specs.Relation.{Stands, Holds, Lays}
 
 module _ {A : Type 0} where
   pub get_d_front : (xs ys : List A) (i : ℕ) (d : A) → i < length xs → get_or (xs ++ ys) i d ≡ get_or xs i d
-  get_d_front [] ys i d lt = absurd (let b : ⊥ = omega arith in b)
+  get_d_front [] ys i d lt = absurd (omega arith)
   get_d_front (x ∷ xs) ys zero d lt = refl
   get_d_front (x ∷ xs) ys (suc i) d lt = get_d_front xs ys i d (omega arith)
 
@@ -23,7 +23,7 @@ module _ {A : Type 0} where
 
   pub get_d_beyond : (xs : List A) (i : ℕ) (d : A) → length xs ≤ i → get_or xs i d ≡ d
   get_d_beyond [] i d le = refl
-  get_d_beyond (x ∷ xs) zero d le = absurd (let b : ⊥ = omega arith in b)
+  get_d_beyond (x ∷ xs) zero d le = absurd (omega arith)
   get_d_beyond (x ∷ xs) (suc i) d le = get_d_beyond xs i d (omega arith)
 
   pub set_behind : (xs ys : List A) (i : ℕ) (a : A) → set (xs ++ ys) (length xs + i) a ≡ xs ++ set ys i a
@@ -33,7 +33,7 @@ module _ {A : Type 0} where
       ap (λ n. set (x ∷ (xs ++ ys)) n a) e ∙ ap (λ zs. x ∷ zs) (set_behind xs ys i a)
 
   pub set_front : (xs ys : List A) (i : ℕ) (a : A) → i < length xs → set (xs ++ ys) i a ≡ set xs i a ++ ys
-  set_front [] ys i a lt = absurd (let b : ⊥ = omega arith in b)
+  set_front [] ys i a lt = absurd (omega arith)
   set_front (x ∷ xs) ys zero a lt = refl
   set_front (x ∷ xs) ys (suc i) a lt = ap (λ zs. x ∷ zs) (set_front xs ys i a (omega arith))
 

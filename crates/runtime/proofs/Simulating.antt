@@ -1,5 +1,5 @@
 -- One instruction: the running machine does what the checked machine does, and goes on to represent it.
-use Rattle.std.proofs.Common.{◌≡◌, ℕ, suc, ◌+◌, ◌-◌, ◌%◌, ◌^◌, ◌<◌, ◌≤◌, Bool, true, false, cond, eqb, ltb, List, [], ◌∷◌, length, get_or, set, ℤ, Some, None, Option, sym, refl, ap, ◌∙◌, subst, ap₂, subst₂, arith, length-set, lt-ltb, eq-eqb, eqb-true}
+use Rattle.std.proofs.Common.{◌≡◌, ℕ, suc, ◌+◌, ◌-◌, ◌%◌, ◌^◌, ◌<◌, ◌≤◌, Bool, true, false, ◌&&◌, cond, eqb, ltb, List, [], ◌∷◌, length, get_or, set, ℤ, Some, None, Option, sym, refl, ap, ◌∙◌, subst, ap₂, subst₂, arith, length-set, lt-ltb, eq-eqb, eqb-true}
 use borrow.Author.Tests.{eqb-false}
 use Rattle.bytecode.specs.declared.kind.Kind.{Kind}
 use Rattle.bytecode.specs.declared.kind.Kind.TheVariants.{Word, Reference as Ref}
@@ -30,23 +30,18 @@ reference_number r q n m a b e =
 
 same_reference_is : (r q : Reference) → same_reference r q ≡ true → r ≡ q
 same_reference_is null null e = refl
-same_reference_is null (text p) e = cc
-same_reference_is null (block b o) e = cc
-same_reference_is (text p) null e = cc
 same_reference_is (text p) (text q) e = ap text (eqb-true p q e)
-same_reference_is (text p) (block b o) e = cc
-same_reference_is (block b o) null e = cc
-same_reference_is (block b o) (text q) e = cc
 same_reference_is (block b o) (block c u) e = pick (eqb b c) refl e
   where
-    pick : (t : Bool) → eqb b c ≡ t → cond t (eqb o u) false ≡ true → block b o ≡ block c u
+    pick : (t : Bool) → eqb b c ≡ t → (t && eqb o u) ≡ true → block b o ≡ block c u
     pick true q h = ap₂ block (eqb-true b c q) (eqb-true o u h)
     pick false q h = cc
+same_reference_is r q e = cc
 
 same_reference_self : (r : Reference) → same_reference r r ≡ true
 same_reference_self null = refl
 same_reference_self (text p) = eq-eqb p p refl
-same_reference_self (block b o) = ap₂ (λ x y. cond x y false) (eq-eqb b b refl) (eq-eqb o o refl)
+same_reference_self (block b o) = ap₂ (λ x y. x && y) (eq-eqb b b refl) (eq-eqb o o refl)
 
 -- references are the same exactly when their numbers are equal
 same_number : (r q : Reference) (n m : ℕ) → r ≡ reference_of n → q ≡ reference_of m → eqb n m ≡ same_reference r q

@@ -1,5 +1,6 @@
 -- The law of a started machine, from the simulation of one step and the law of the checked machine.
 use Rattle.std.proofs.Common.{◌≡◌, ℕ, ◌+◌, List, [], ◌∷◌, length, replicate, None, Option, sym, refl, ap, ◌∙◌, subst, arith}
+use Rattle.std.proofs.lemmas.Option.{get_or_from_slice_get}
 use lib.ListN.{length-replicate}
 use Rattle.std.proofs.lemmas.List.{append-nil}
 use Rattle.bytecode.specs.Program.{Program}
@@ -11,7 +12,7 @@ use Rattle.checked.specs.Machine.{Value, Frame, frame, Conf, conf, Sizes, reserv
 use Rattle.checked.specs.Machine as checked
 use Rattle.checked.specs.Law.{Plans, Accepted, NoLess, AllKeepLaws}
 use Rattle.checked.specs.Sound.{Sound}
-use Rattle.checked.proofs.Pieces.{nth_some, nth-get_or}
+use Rattle.checked.proofs.Pieces.{nth_some}
 use Rattle.checked.proofs.Sounding.{Fine, step_fine}
 use Rattle.checked.proofs.Running.{threads}
 use Rattle.checked.proofs.Standing.{begins_sound, law_holds}
@@ -45,7 +46,7 @@ module _ (P : Program) (plans : Plans) (ok : Accepted P plans) (small : Small P)
   pub begins_paired : (m : Memory) → Enough P m → Paired (sizes_of m) (checked.begins (variables_at P 0)) (begins P m.slots m.frames m.storage)
   begins_paired m enough =
       let g = nth_some P.functions 0 ok.some in
-      let e = nth-get_or P.functions 0 g.0 no_function g.1 in
+      let e = get_or_from_slice_get P.functions 0 g.0 no_function g.1 in
       let v : variables_at P 0 + 32 ≡ reserve (nth P.functions 0) + 0 =
       (let a = ap reserve g.1 in let b = ap (λ k. k.variables) e in omega arith) in
       let n : length (flat (frame 0 0 (replicate (variables_at P 0) None) [] ∷ [])) ≡ variables_at P 0 =
@@ -67,8 +68,8 @@ module _ (P : Program) (plans : Plans) (ok : Accepted P plans) (small : Small P)
           free = enough.frames;
           heap = stands.begins m.storage enough.unused.used enough.unused.count enough.unused.cells enough.unused.records;
           sized = record {
-            bytes = λ j lt. absurd (let a = enough.unused.used in let b : ⊥ = omega arith in b);
-            counts = λ b lt. absurd (let a = enough.unused.count in let c : ⊥ = omega arith in c);
+            bytes = λ j lt. absurd (omega (arith, enough.unused.used));
+            counts = λ b lt. absurd (omega (arith, enough.unused.count));
           };
         },
       )

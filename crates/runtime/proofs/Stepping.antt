@@ -1,7 +1,9 @@
 -- A step of the running machine is a step of the checked machine that it represents.
-use Rattle.std.proofs.Common.{◌≡◌, ℕ, ◌+◌, ◌-◌, ◌^◌, ◌<◌, ◌≤◌, Bool, true, false, cond, not, eqb, ltb, List, [], ◌∷◌, map, reverse, length, get_or, ℤ, Some, None, Option, sym, refl, ap, ◌∙◌, subst, subst₂, arith, ltb-true, lt-ltb, eqb-true}
+use Rattle.std.proofs.Common.{◌≡◌, ℕ, ◌+◌, ◌-◌, ◌^◌, ◌<◌, ◌≤◌, Bool, true, false, cond, not, eqb, List, [], ◌∷◌, map, reverse, length, get_or, ℤ, Some, None, Option, sym, refl, ap, ◌∙◌, subst, subst₂, arith, lt-ltb, eqb-true}
+use lib.ListN.{length-map}
+use Rattle.std.proofs.lemmas.Option.{get_or_from_slice_get}
 use Rattle.bytecode.specs.declared.kind.Kind.{Kind}
-use Rattle.bytecode.specs.declared.kind.Kind.TheVariants.{Unknown, Word, Reference as Ref}
+use Rattle.bytecode.specs.declared.kind.Kind.TheVariants.{Word, Reference as Ref}
 use Rattle.bytecode.specs.declared.instruction.Instruction.{Instruction}
 use Rattle.bytecode.specs.declared.instruction.Instruction.TheVariants.{Nop, Pop, Dup, Swap, AconstNull, Aldc, Bipush, Ildc, Vload, Vstore, Binary, IfCmpeq, IfCmpne, IfIcmp, Goto, Invokestatic, Invokenative, Return, New, Newarray, Arraylength, Aaddf, Aadds, Imload, Cmload, Amload, Imstore, Cmstore, Amstore}
 use Rattle.bytecode.specs.Instructions.{size_of, decode_at, target}
@@ -14,14 +16,14 @@ use Rattle.host.specs.Hosts.{Host, Lawful}
 use Rattle.word.specs.Words.{compute, holds, wrap}
 use Rattle.plan.specs.Programs.{nth, function_at, variables_at}
 use Rattle.plan.specs.Shapes.{Shape}
-use Rattle.plan.specs.Effects.{effect, fixed, performed, within, call_static, call_native}
+use Rattle.plan.specs.Effects.{effect, performed, call_static, call_native}
 use Rattle.plan.specs.Plans.{Hits, Lands, successors, shape_at}
 use Rattle.checked.specs.Runs.{goes, breaks}
-use Rattle.checked.specs.Machine.{Value, word, reference, kind_of, Frame, frame, Conf, conf, Sizes, reserve, arguments, found, room_for, took_arguments, only_value, is_kind, attempt, pop_word, resume, enter, return, ask, exec, step}
+use Rattle.checked.specs.Machine.{Value, word, reference, kind_of, Frame, frame, Conf, conf, Sizes, reserve, arguments, found, room_for, only_value, is_kind, attempt, pop_word, resume, enter, return, ask, exec, step}
 use Rattle.checked.specs.Law.{Plans, Accepted}
 use Rattle.checked.specs.Sound.{Held, Fits, Callers, main, more, Sound}
-use Rattle.checked.proofs.Stacking.{Kinded, bare, words, refs, kinded_at, Replaced, replaced, loads, stores, pops, doubles, swaps, pairs, gives_result, given, is_kind_lem}
-use Rattle.checked.proofs.Pieces.{nth_some, nth-get_or, length-map, held_value}
+use Rattle.checked.proofs.Stacking.{Kinded, bare, words, refs, kinded_at, Replaced, replaced, from_pool, loads, stores, pops, doubles, swaps, pairs, gives_result, given, is_kind_lem}
+use Rattle.checked.proofs.Pieces.{nth_some, held_value}
 use Rattle.checked.proofs.Sounding.{good_plan, is_function}
 use Rattle.runtime.specs.Runtime.{State, slot, Came, went, lifted, called, returned, act, acted, fetched}
 use Rattle.runtime.specs.Runtime as running
@@ -43,7 +45,7 @@ text_stands : (count c : ℕ) → c + 1 < 2 ^ 32 → Stands count (reference (te
 text_stands count c lt = (
   subst₂ (λ a b. text c ≡ cond a null (cond b (text (c + 1 - 1)) (block (block_of (c + 1)) (offset_of (c + 1)))))
       (sym (ne_eqb (c + 1) 0 (λ e. omega arith))) (sym (lt-ltb (c + 1) (2 ^ 32) lt)) (ap text (let e : c ≡ c + 1 - 1 = omega arith in e)),
-  λ big. absurd (let b : ⊥ = omega arith in b),
+  λ big. absurd (omega arith),
 )
 
 module _ (P : Program) (plans : Plans) (ok : Accepted P plans) (small : Small P) {S : Type 0} (host : Host S) (lawful : Lawful host) (sizes : Sizes) where
@@ -53,7 +55,7 @@ module _ (P : Program) (plans : Plans) (ok : Accepted P plans) (small : Small P)
   module _ (f p : ℕ) (vs : List (Option Value)) (st : List Value) (rest : List Frame) (h : Heap) (s : S) (l : State)
       (d : Fits P plans f p vs (map kind_of st)) (callers : Callers P plans f rest) (r : Represents P sizes f p vs st rest h l) where
     low : length st ≤ 32
-    low = let a = stack_low P plans ok f p vs (map kind_of st) d in let b = length-map kind_of st in omega arith
+    low = let a = stack_low P plans ok f p vs (map kind_of st) d in let b = length-map st kind_of in omega arith
 
     -- the slots suffice for a stack of up to 32 values
     room : (t : List Value) → length t < 32 → length (flat (frame f p vs t ∷ rest)) < length l.slots
@@ -74,7 +76,7 @@ module _ (P : Program) (plans : Plans) (ok : Accepted P plans) (small : Small P)
     spare k x e le =
         let a = ap length e in
         let b = ap length d.stack in
-        let c = length-map kind_of st in
+        let c = length-map st kind_of in
         omega arith
 
     spare_one : (k : Kind) (x : Shape) → Replaced [] (k ∷ []) d.shape x → length st < 32
@@ -88,38 +90,29 @@ module _ (P : Program) (plans : Plans) (ok : Accepted P plans) (small : Small P)
         pick None e hit = absurd hit
         pick (Some to) e hit = (to, e)
 
-    inside : (c count : ℕ) (k : Kind) (x : Shape) → performed f p (variables_at P f) d.shape (within c count (fixed [] (k ∷ []))) ≡ good x
-        → (ltb c count ≡ true) × Replaced [] (k ∷ []) d.shape x
-    inside c count k x e = pick (ltb c count) refl e
-      where
-        pick : (b : Bool) → ltb c count ≡ b → performed f p (variables_at P f) d.shape (cond b (Some (fixed [] (k ∷ []))) None) ≡ good x
-            → (ltb c count ≡ true) × Replaced [] (k ∷ []) d.shape x
-        pick false q h = absurd (let z : ◌≡◌ {A = ℕ} 0 1 = cc in let b : ⊥ = omega arith in b)
-        pick true q h = (q, replaced f p (variables_at P f) [] (k ∷ []) d.shape x h)
-
     calls_same : (c q : ℕ) (x : Shape) (o : Option Function) → nth P.functions c ≡ o → performed f p (variables_at P f) d.shape (call_static o) ≡ good x
-        → Same R (found o s (λ g. took_arguments (arguments g.signature st) s (λ args t. room_for t s (enter P host sizes c g args f q vs t rest h s)))) (lifted s (called l q c o))
-    calls_same c q x None known e = absurd (let z : ◌≡◌ {A = ℕ} 0 1 = cc in let b : ⊥ = omega arith in b)
+        → Same R (found o s (λ g. found (arguments g.signature st) s (λ t. room_for t.left s (enter P host sizes c g t.values f q vs t.left rest h s)))) (lifted s (called l q c o))
+    calls_same c q x None known e = cc
     calls_same c q x (Some g) known e =
         let y = replaced f p (variables_at P f) (reverse g.signature.arguments) (g.signature.result ∷ []) d.shape x e in
         let a = given g.signature y.rest st (sym d.stack ∙ y.before) in
         let n : length a.left < 32 =
-        (let i = ap length a.kinds_left in let j = length-map kind_of a.left in let k = ap length y.after in let m = y.low in omega arith) in
-        let count : length a.args ≡ length g.signature.arguments = sym (length-map kind_of a.args) ∙ ap length a.kinds_args in
-        subst (λ t. Same R (took_arguments t s (λ args t. room_for t s (enter P host sizes c g args f q vs t rest h s))) (lifted s (called l q c (Some g)))) (sym a.takes_them)
+        (let i = ap length a.kinds_left in let j = length-map a.left kind_of in let k = ap length y.after in let m = y.low in omega arith) in
+        let count : length a.args ≡ length g.signature.arguments = sym (length-map a.args kind_of) ∙ ap length a.kinds_args in
+        subst (λ o. Same R (found o s (λ t. room_for t.left s (enter P host sizes c g t.values f q vs t.left rest h s))) (lifted s (called l q c (Some g)))) (sym a.takes_them)
         (room_same P sizes f p vs rest h l s room a.left n _ _
         (enter_same P sizes host f p q vs st rest h l s r c g a.args a.left known a.whole count (ok.formed.functions c g known).counted))
 
     natives_same : (c q : ℕ) (x : Shape) (o : Option Native) → performed f p (variables_at P f) d.shape (call_native o) ≡ good x
-        → Same R (found o s (λ n. took_arguments (arguments n.signature st) s (λ args t. room_for t s (ask P host sizes n args s (λ v u. resume f q vs (v ∷ t) rest h u)))))
+        → Same R (found o s (λ n. found (arguments n.signature st) s (λ t. room_for t.left s (ask P host sizes n t.values s (λ v u. resume f q vs (v ∷ t.left) rest h u)))))
         (running.asked P host l q s o)
-    natives_same c q x None e = absurd (let z : ◌≡◌ {A = ℕ} 0 1 = cc in let b : ⊥ = omega arith in b)
+    natives_same c q x None e = cc
     natives_same c q x (Some m) e =
         let y = replaced f p (variables_at P f) (reverse m.signature.arguments) (m.signature.result ∷ []) d.shape x e in
         let a = given m.signature y.rest st (sym d.stack ∙ y.before) in
         let n : length a.left < 32 =
-        (let i = ap length a.kinds_left in let j = length-map kind_of a.left in let k = ap length y.after in let w = y.low in omega arith) in
-        subst (λ t. Same R (took_arguments t s (λ args t. room_for t s (ask P host sizes m args s (λ v u. resume f q vs (v ∷ t) rest h u)))) (running.asked P host l q s (Some m))) (sym a.takes_them)
+        (let i = ap length a.kinds_left in let j = length-map a.left kind_of in let k = ap length y.after in let w = y.low in omega arith) in
+        subst (λ o. Same R (found o s (λ t. room_for t.left s (ask P host sizes m t.values s (λ v u. resume f q vs (v ∷ t.left) rest h u)))) (running.asked P host l q s (Some m))) (sym a.takes_them)
         (room_same P sizes f p vs rest h l s room a.left n _ _
         (ask_same P sizes host lawful f p q vs st rest h l s r room m a.args a.left a.whole a.kinds_args n))
 
@@ -128,11 +121,11 @@ module _ (P : Program) (plans : Plans) (ok : Accepted P plans) (small : Small P)
     awaiting e q us t fs eq = pick f rest callers eq
       where
         pick : (g : ℕ) (rs : List Frame) → Callers P plans g rs → rs ≡ frame e q us t ∷ fs → length t < 32
-        pick g rs main eq = absurd (let z : ◌≡◌ {A = ℕ} 0 1 = cc in let b : ⊥ = omega arith in b)
+        pick g rs main eq = cc
         pick g rs (more {f = g'} {p = p'} {vs = ws} {st = u} {rest = rs'} w ws') eq =
             let a : u ≡ t = cc in
             let b = stack_low P plans ok g' p' ws _ w in
-            let c = length-map kind_of u in
+            let c = length-map u kind_of in
             let k = ap length a in
             omega arith
 
@@ -142,7 +135,7 @@ module _ (P : Program) (plans : Plans) (ok : Accepted P plans) (small : Small P)
       where
         pick : (g : ℕ) (rs : List Frame) → Callers P plans g rs → rs ≡ [] → kind_of v ≡ (function_at P g).signature.result → kind_of v ≡ Word
         pick g rs main eq kv = kv ∙ ok.word
-        pick g rs (more w ws) eq kv = absurd (let z : ◌≡◌ {A = ℕ} 0 1 = cc in let b : ⊥ = omega arith in b)
+        pick g rs (more w ws) eq kv = cc
 
     base_inside : length (flat rest) < length l.slots
     base_inside = let a = flat_length f p vs [] rest in let b = room [] (omega arith) in omega arith
@@ -169,7 +162,6 @@ module _ (P : Program) (plans : Plans) (ok : Accepted P plans) (small : Small P)
                 → Same R (only_value t s (λ v. cond (is_kind d.self.signature.result v) (return v rest h s) (breaks s))) (lifted s (returned l (Some d.self)))
             kind Word e t eq (words {n} bare) = only (word n) eq (sym e)
             kind Ref e t eq (refs {r = a} bare) = only (reference a) eq (sym e)
-            kind Unknown e t eq k = elim k [ ]
 
     newarray_same : (b : ℕ) {ks : List Kind} → Kinded st (Word ∷ ks)
         → Same R (pop_word st s (λ n t. attempt (newarray sizes.cells sizes.records h b n) s (λ a. resume f (p + 2) vs (reference a.reference ∷ t) rest a.heap s)))
@@ -202,23 +194,23 @@ module _ (P : Program) (plans : Plans) (ok : Accepted P plans) (small : Small P)
         swap_same P sizes f p vs rest h l s room (before (y.top ∷ y.second ∷ y.rest) y.before) r low (p + 1)
     act_same AconstNull x e w =
         let y = replaced f p (variables_at P f) [] (Ref ∷ []) d.shape x e in
-        push_same P sizes f p vs rest h l s room st r (spare_one Ref x y) (p + 1) 0 (reference null) (refl, λ big. absurd (let b : ⊥ = omega arith in b))
+        push_same P sizes f p vs rest h l s room st r (spare_one Ref x y) (p + 1) 0 (reference null) (refl, λ big. absurd (omega arith))
     act_same (Aldc c) x e w =
-        let y = inside c (length P.strings) Ref x e in
-        subst (λ b. Same R (cond b (room_for st s (resume f (p + 3) vs (reference (text c) ∷ st) rest h s)) (breaks s)) (goes (running.pushed l (p + 3) l.top (c + 1)) s)) (sym y.0)
-        (push_same P sizes f p vs rest h l s room st r (spare_one Ref x y.1) (p + 3) (c + 1) (reference (text c)) (text_stands l.storage.count c (let a = ltb-true c (length P.strings) y.0 in let b = small.strings in omega arith)))
+        let y = from_pool f p (variables_at P f) c (length P.strings) Ref d.shape x e in
+        subst (λ b. Same R (cond b (room_for st s (resume f (p + 3) vs (reference (text c) ∷ st) rest h s)) (breaks s)) (goes (running.pushed l (p + 3) l.top (c + 1)) s)) (sym (lt-ltb c (length P.strings) y.0))
+        (push_same P sizes f p vs rest h l s room st r (spare_one Ref x y.1) (p + 3) (c + 1) (reference (text c)) (text_stands l.storage.count c (let a = y.0 in let b = small.strings in omega arith)))
     act_same (Bipush b) x e w =
         let y = replaced f p (variables_at P f) [] (Word ∷ []) d.shape x e in
         push_same P sizes f p vs rest h l s room st r (spare_one Word x y) (p + 2) (wrap b) (word (wrap b)) (refl, wrap_word b)
     act_same (Ildc c) x e w =
-        let y = inside c (length P.integers) Word x e in
-        let n = nth_some P.integers c (ltb-true c (length P.integers) y.0) in
+        let y = from_pool f p (variables_at P f) c (length P.integers) Word d.shape x e in
+        let n = nth_some P.integers c y.0 in
         found_same P sizes f p vs rest h l s room (nth P.integers c) _ _ n.0 n.1
         (push_same P sizes f p vs rest h l s room st r (spare_one Word x y.1) (p + 3) (get_or P.integers c 0) (word n.0)
-        (nth-get_or P.integers c n.0 0 n.1, small.integers c n.0 n.1))
+        (get_or_from_slice_get P.integers c n.0 0 n.1, small.integers c n.0 n.1))
     act_same (Vload i) x e w =
         let y = loads f p (variables_at P f) i d.shape x e in
-        let v = held_value y.kind (get_or vs i None) y.known (subst (λ k. Held k (get_or vs i None)) y.there (d.holding i)) in
+        let v = held_value y.kind (get_or vs i None) (subst (λ k. Held k (get_or vs i None)) y.there (d.holding i)) in
         let self = is_function P plans ok f d.self d.known in
         let n : i < length vs = (let a = y.inside in let b = d.sized in let c = ap (λ g. g.variables) self in omega arith) in
         load_same P sizes f p vs rest h l s room st r (spare y.kind x y.after y.low) (p + 2) i v.0 n v.1

@@ -2,7 +2,7 @@
 -- blocks lie in storage. A word is its 32 bits, a reference its number.
 use Rattle.std.specs.Prelude.{ℕ, zero, suc, ◌+◌, ◌-◌, ◌%◌, ◌^◌, Bool, true, false, cond, not, List, [], ◌∷◌, length, ℤ, Some, None, Option, ◌==◌, nat_le, nat_lt, slice_index, slice_index_or, slice_set}
 use Rattle.bytecode.specs.declared.kind.Kind.{Kind}
-use Rattle.bytecode.specs.declared.kind.Kind.TheVariants.{Unknown, Word, Reference as Ref}
+use Rattle.bytecode.specs.declared.kind.Kind.TheVariants.{Word, Reference as Ref}
 use Rattle.bytecode.specs.declared.stop.Stop.{Stop}
 use Rattle.bytecode.specs.declared.stop.Stop.TheVariants.{Calls, Native as NoNative, Host as ByHost}
 use Rattle.bytecode.specs.declared.instruction.Instruction.{Instruction}
@@ -49,105 +49,51 @@ word_in l i = slot l i % 2 ^ 32
 
 -- goes on at q with the stack cut to `top`
 abbrev pub moved : State → ℕ → ℕ → State
-moved l q top =
-    record {
-      function = l.function;
-      place = q;
-      base = l.base;
-      slots = l.slots;
-      top = top;
-      frames = l.frames;
-      callers = l.callers;
-      reserved = l.reserved;
-      storage = l.storage;
-    }
+moved l q top = record l { place = q; top = top }
 
 -- goes on at q with v in slot i, right above which the stack ends
 abbrev pub pushed : State → ℕ → ℕ → ℕ → State
-pushed l q i v =
-    record {
-      function = l.function;
-      place = q;
-      base = l.base;
-      slots = slice_set l.slots i v;
-      top = suc i;
-      frames = l.frames;
-      callers = l.callers;
-      reserved = l.reserved;
-      storage = l.storage;
-    }
+pushed l q i v = record l { place = q; slots = slice_set l.slots i v; top = suc i }
 
 -- goes on at q with slot i set to v and the stack cut by one
 abbrev pub assigned : State → ℕ → ℕ → ℕ → State
-assigned l q i v =
-    record {
-      function = l.function;
-      place = q;
-      base = l.base;
-      slots = slice_set l.slots i v;
-      top = l.top - 1;
-      frames = l.frames;
-      callers = l.callers;
-      reserved = l.reserved;
-      storage = l.storage;
-    }
+assigned l q i v = record l { place = q; slots = slice_set l.slots i v; top = l.top - 1 }
 
+-- goes on at q with the two topmost slots exchanged
 abbrev pub swapped : State → ℕ → State
 swapped l q =
-    record {
-      function = l.function;
+    record l {
       place = q;
-      base = l.base;
       slots = slice_set (slice_set l.slots (l.top - 2) (slot l (l.top - 1))) (l.top - 1) (slot l (l.top - 2));
-      top = l.top;
-      frames = l.frames;
-      callers = l.callers;
-      reserved = l.reserved;
-      storage = l.storage;
     }
 
 abbrev pub with_storage : State → Storage → State
-with_storage l m =
-    record {
-      function = l.function;
-      place = l.place;
-      base = l.base;
-      slots = l.slots;
-      top = l.top;
-      frames = l.frames;
-      callers = l.callers;
-      reserved = l.reserved;
-      storage = m;
-    }
+with_storage l m = record l { storage = m }
 
 -- a call of function c that is g, to return to q
 abbrev pub entered : State → ℕ → ℕ → Function → State
 entered l q c g =
-    record {
+    record l {
       function = c;
       place = 0;
       base = l.top - length g.signature.arguments;
-      slots = l.slots;
       top = (l.top - length g.signature.arguments) + g.variables;
       frames = slice_set l.frames l.callers (record { function = l.function; place = q; base = l.base });
       callers = suc l.callers;
       reserved = reserve (Some g) + l.reserved;
-      storage = l.storage;
     }
 
 -- a return of the value v from function g to the frame k
 abbrev pub left : State → Function → FrameRecord → ℕ → State
 left l g k v =
-    record {
+    record l {
       function = k.function;
       place = k.place;
       base = k.base;
       slots = slice_set l.slots l.base v;
       top = suc l.base;
-      frames = l.frames;
       callers = l.callers - 1;
       reserved = l.reserved - reserve (Some g);
-      storage = l.storage;
     }
 
 -- ## One instruction without a host
@@ -229,7 +175,6 @@ exec P Amstore q l =
 
 -- what a host is told of the slots from i on, by the kinds of the arguments
 abbrev pub argument_of : Kind → ℕ → Argument
-argument_of Unknown n = Argument.Reference (n == 0)
 argument_of Word n = Argument.Word (n % 2 ^ 32)
 argument_of Ref n = Argument.Reference (n == 0)
 
@@ -239,7 +184,6 @@ arguments_from (k ∷ ks) mem i = argument_of k (slice_index mem i) ∷ argument
 
 -- the numbers of the reference arguments
 abbrev pub number_if : Kind → ℕ → List ℕ → List ℕ
-number_if Unknown n ns = ns
 number_if Word n ns = ns
 number_if Ref n ns = n ∷ ns
 
@@ -302,35 +246,8 @@ module _ {S : Type 0} where
 
     -- one instruction; q is the place after it
     abbrev pub act : Instruction → ℕ → State → S → Next State S
-    act Nop q l s = lifted s (exec P Nop q l)
-    act Pop q l s = lifted s (exec P Pop q l)
-    act Dup q l s = lifted s (exec P Dup q l)
-    act Swap q l s = lifted s (exec P Swap q l)
-    act AconstNull q l s = lifted s (exec P AconstNull q l)
-    act (Aldc c) q l s = lifted s (exec P (Aldc c) q l)
-    act (Bipush b) q l s = lifted s (exec P (Bipush b) q l)
-    act (Ildc c) q l s = lifted s (exec P (Ildc c) q l)
-    act (Vload i) q l s = lifted s (exec P (Vload i) q l)
-    act (Vstore i) q l s = lifted s (exec P (Vstore i) q l)
-    act (Binary op) q l s = lifted s (exec P (Binary op) q l)
-    act (IfCmpeq o) q l s = lifted s (exec P (IfCmpeq o) q l)
-    act (IfCmpne o) q l s = lifted s (exec P (IfCmpne o) q l)
-    act (IfIcmp order o) q l s = lifted s (exec P (IfIcmp order o) q l)
-    act (Goto o) q l s = lifted s (exec P (Goto o) q l)
-    act (Invokestatic c) q l s = lifted s (exec P (Invokestatic c) q l)
     act (Invokenative c) q l s = asked l q s (nth P.natives c)
-    act Return q l s = lifted s (exec P Return q l)
-    act (New b) q l s = lifted s (exec P (New b) q l)
-    act (Newarray b) q l s = lifted s (exec P (Newarray b) q l)
-    act Arraylength q l s = lifted s (exec P Arraylength q l)
-    act (Aaddf f) q l s = lifted s (exec P (Aaddf f) q l)
-    act Aadds q l s = lifted s (exec P Aadds q l)
-    act Imload q l s = lifted s (exec P Imload q l)
-    act Cmload q l s = lifted s (exec P Cmload q l)
-    act Amload q l s = lifted s (exec P Amload q l)
-    act Imstore q l s = lifted s (exec P Imstore q l)
-    act Cmstore q l s = lifted s (exec P Cmstore q l)
-    act Amstore q l s = lifted s (exec P Amstore q l)
+    act i q l s = lifted s (exec P i q l)
 
     abbrev pub acted : Option Instruction → State → S → Next State S
     acted None l s = breaks s

@@ -9,7 +9,7 @@ ghost use Rattle.runtime.specs.Relation.{Small};
 ghost use Rattle.runtime.specs.Law.{Memory, Enough, Law};
 
 /// A calling frame: its function, the place after its call, and the slot where its variables begin.
-#[derive(Clone, Copy)]
+#[derive(Clone, Copy, Debug, Default, PartialEq, Eq)]
 pub struct FrameRecord {
     pub function: usize,
     pub place: usize,

@@ -1,3 +1,4 @@
+pub mod Comparing
 pub mod Narrowing
 pub mod Stacks
 pub mod Joining

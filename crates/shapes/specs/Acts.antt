@@ -1,28 +1,19 @@
--- What an act in memory stands for.
-use Rattle.std.specs.Prelude.{ℕ, List, [], ◌∷◌, drop, replicate, Some, None, Option}
+-- What an act in memory stands for, and what an answer with a fault says of its place.
+use Rattle.std.specs.Prelude.{ℕ, List, [], ◌∷◌, Ok, Err, Result, Some, None, Option}
 use Rattle.bytecode.specs.declared.kind.Kind.{Kind}
-use Rattle.bytecode.specs.declared.kind.Kind.TheVariants.{Unknown}
-use Rattle.bytecode.specs.Outcome.{Out}
-use Rattle.plan.specs.Shapes.{Shape}
-use Rattle.plan.specs.Effects.{Act, fixed, load, store, pop, dup, swap, alike, give, room, keeping}
-use Rattle.shapes.specs.declared.act.Kinds.{Kinds}
+use Rattle.bytecode.specs.declared.refusal.CodeFault.{CodeFault}
+use Rattle.bytecode.specs.declared.refusal.CodeFault.TheVariants.{Opcode, TooFew, TooMany, WrongKind, Variable, PoolIndex, NoStart, StacksDiffer, Return}
+use Rattle.bytecode.specs.Outcome.{Out, bad, good, code_number}
+use Rattle.plan.specs.Effects.{Act, fixed, load, store, pop, dup, swap, alike, give}
 use Rattle.shapes.specs.declared.act.StackAct.{StackAct}
 use Rattle.shapes.specs.declared.act.StackAct.TheVariants.{Fixed, Load, Store, Pop, Dup, Swap, Alike, Give}
-use Rattle.shapes.specs.Records.{stack_of}
-
--- the kinds with the top first
-abbrev pub kinds_of : Kinds → List Kind
-kinds_of ks = stack_of ks.count ks.entries
-
-abbrev pub no_kinds : Kinds
-no_kinds = record { count = 0; entries = replicate 32 Unknown }
 
 abbrev pub one_or_none : Option Kind → List Kind
 one_or_none None = []
 one_or_none (Some k) = k ∷ []
 
 abbrev pub act_in : StackAct → Act
-act_in (Fixed taken left) = fixed (kinds_of taken) (one_or_none left)
+act_in (Fixed taken left) = fixed taken (one_or_none left)
 act_in (Load i) = load i
 act_in (Store i) = store i
 act_in Pop = pop
@@ -31,12 +22,25 @@ act_in Swap = swap
 act_in Alike = alike
 act_in (Give k) = give k
 
--- ## Shapes with another stack
+-- ## Faults and their places
 
--- without the uppermost n entries
-abbrev pub lowered : ℕ → Shape → Shape
-lowered n s = record { stack = drop n s.stack; variables = s.variables }
+-- an answer at place p of function f
+abbrev pub told_at : {A B : Type 0} → ℕ → ℕ → (A → B) → Result A CodeFault → Out B
+told_at f p g (Ok a) = good (g a)
+told_at f p g (Err e) = bad (code_number e, f, p)
 
--- with one entry more
-abbrev pub pushed : ℕ → ℕ → Kind → Shape → Out Shape
-pushed f p k s = keeping f p s.variables (room f p (k ∷ s.stack))
+-- of a shape that comes from p and meets q, the place that a fault is of
+abbrev pub met_at : ℕ → ℕ → CodeFault → ℕ
+met_at p q Opcode = p
+met_at p q TooFew = p
+met_at p q TooMany = p
+met_at p q WrongKind = p
+met_at p q Variable = p
+met_at p q PoolIndex = p
+met_at p q NoStart = p
+met_at p q StacksDiffer = q
+met_at p q Return = p
+
+abbrev pub told_between : {A B : Type 0} → ℕ → ℕ → ℕ → (A → B) → Result A CodeFault → Out B
+told_between f p q g (Ok a) = good (g a)
+told_between f p q g (Err e) = bad (code_number e, f, met_at p q e)

@@ -1,22 +1,22 @@
 -- What a record of the verifier's table stands for, and the record of a shape.
-use Rattle.std.specs.Prelude.{◌≡◌, ℕ, zero, suc, ◌<◌, ◌≤◌, ◌⊎◌, List, [], ◌∷◌, length, replicate, Some, None, Option, slice_index_or, slice_set}
+use Rattle.std.specs.Prelude.{◌≡◌, ℕ, ◌<◌, ◌⊎◌, List, [], ◌∷◌, length, replicate, Some, None, Option, slice_index_or, slice_set}
 use Rattle.bytecode.specs.declared.kind.Kind.{Kind}
-use Rattle.bytecode.specs.declared.kind.Kind.TheVariants.{Unknown}
 use Rattle.plan.specs.Shapes.{Shape}
 use Rattle.plan.specs.Sweep.{Cell, off, blank, marked, settled}
+use Rattle.shapes.specs.Stacks.{stack_of, Filled}
 use Rattle.shapes.specs.declared.table.ShapeMark.{ShapeMark}
 use Rattle.shapes.specs.declared.table.ShapeMark.TheVariants.{Blank, Start, Due, Shaped}
 use Rattle.shapes.specs.declared.table.ShapeRecord.{ShapeRecord}
+use Rattle.shapes.specs.declared.shape.Shape as declared_shape
 
 -- ## From a record to its cell
 
--- the stack that n entries of an array hold: the array has the bottom of the stack first, a stack its top
-abbrev pub stack_of : ℕ → List Kind → List Kind
-stack_of zero entries = []
-stack_of (suc n) entries = slice_index_or entries n Unknown ∷ stack_of n entries
-
 abbrev pub shape_in : ShapeRecord → Shape
 shape_in r = record { stack = stack_of r.depth r.stack; variables = r.variables }
+
+-- the shape that a value of the program is
+abbrev pub shape_as : declared_shape.Shape → Shape
+shape_as s = record { stack = s.stack; variables = s.variables }
 
 abbrev pub cell_as : ShapeMark → Shape → Cell
 cell_as Blank s = off
@@ -29,17 +29,17 @@ cell_of r = cell_as r.mark (shape_in r)
 
 -- ## From a shape to its record
 
--- the array of a stack: 32 entries, Unknown where unused
-abbrev pub entries_of : List Kind → List Kind
-entries_of [] = replicate 32 Unknown
-entries_of (k ∷ st) = slice_set (entries_of st) (length st) k
+-- the array of a stack: 32 entries, none where unused
+abbrev pub entries_of : List Kind → List (Option Kind)
+entries_of [] = replicate 32 None
+entries_of (k ∷ st) = slice_set (entries_of st) (length st) (Some k)
 
 abbrev pub record_with : ShapeMark → Shape → ShapeRecord
 record_with m s = record { mark = m; depth = length s.stack; stack = entries_of s.stack; variables = s.variables }
 
 -- a record without a shape, but for its mark
 abbrev pub empty_record : ShapeMark → ShapeRecord
-empty_record m = record { mark = m; depth = 0; stack = replicate 32 Unknown; variables = replicate 32 Unknown }
+empty_record m = record { mark = m; depth = 0; stack = replicate 32 None; variables = replicate 32 None }
 
 abbrev pub blank_record : ShapeRecord
 blank_record = empty_record Blank
@@ -64,17 +64,15 @@ HasShape Start = ⊥
 HasShape Due = Unit {0}
 HasShape Shaped = Unit {0}
 
--- at most 32 entries are used, the others are Unknown
+-- at most 32 entries have a kind, the others none
 pub record Tidy (r : ShapeRecord) : Type 0 where
-  pub low : r.depth ≤ 32
-  pub long : length r.stack ≡ 32
+  pub stack : Filled r.depth r.stack
   pub wide : length r.variables ≡ 32
-  pub unused : (k : ℕ) → r.depth ≤ k → slice_index_or r.stack k Unknown ≡ Unknown
 
 -- and a record without a shape has nothing but its mark
 pub record Whole (r : ShapeRecord) : Type 0 where
   pub tidy : Tidy r
-  pub vacant : HasShape r.mark ⊎ ((r.depth ≡ 0) × (r.variables ≡ replicate 32 Unknown))
+  pub vacant : HasShape r.mark ⊎ ((r.depth ≡ 0) × (r.variables ≡ replicate 32 None))
 
 -- what stands in for a record past the end of a table
 abbrev pub no_record : ShapeRecord

@@ -2,5 +2,6 @@
 #![tactic(auto)]
 
 pub mod act;
-mod kinds;
+pub mod kinds;
+pub mod shape;
 pub mod table;

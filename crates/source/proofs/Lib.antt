@@ -1,5 +1,4 @@
 mod Answering
 mod Characters
 mod Loading
-mod Offsets
 mod Passing

@@ -1,6 +1,6 @@
 -- One turn of load: what is to come, the bytes read so far and the buffer go on to what load comes to as a whole.
 use Rattle.std.proofs.Common.{◌≡◌, ℕ, zero, suc, ◌+◌, ◌-◌, ◌<◌, ◌≤◌, List, [], ◌∷◌, ◌++◌, length, take, drop, set, replicate, Some, None, Ok, Err, Option, Result, sym, refl, ap, ◌∙◌, subst, append_assoc, arith}
-use Rattle.std.proofs.lemmas.List.{take_more_set, drop-set-lt, drop-drop, length-set, length-take-le, take-append-drop, append-nil}
+use Rattle.std.proofs.lemmas.List.{take_more_set, drop-set-lt, drop-drop, length-set, length-take-le, take-append-drop, take-append-le, drop-append-le, append-nil, length-append, length-drop}
 use Rattle.source.specs.declared.loader.LoadFault.{LoadFault}
 use Rattle.source.specs.declared.loader.LoadFault.TheVariants.{TooLong, Unreadable}
 use Rattle.source.specs.Rest.{Rest, byte, end, fault, next_of, after_next, place_of}
@@ -121,6 +121,28 @@ module _ {P F : Type 0} where
       → Underway room count start later before buffer
   moved {room} {count} {start} {now} {later} {before} {buffer} e u = subst (λ (r : Rest P F). Underway room count start r before buffer) e u
 
+  -- the front of the buffer is worked on alone
+  pub widened :
+      {room count : ℕ} {start now : Rest P F} {before buffer : List ℕ}
+      → room ≤ length before
+      → Underway room count start now (take room before) buffer
+      → Underway room count start now before (buffer ++ drop room before)
+  widened {room} {count} {start} {now} {before} {buffer} small u =
+      let front : length (take room before) ≡ room = length-take-le room before small in
+      let inside : count ≤ length buffer = omega (arith, u.within, u.size, front) in
+      record {
+        within = u.within;
+        filled = u.filled ∙ ap (λ (l : List ℕ). l ++ bytes_of now) (sym (take-append-le count buffer (drop room before) inside));
+        untouched =
+            drop-append-le count buffer (drop room before) inside
+            ∙ ap (λ (l : List ℕ). l ++ drop room before) u.untouched
+            ∙ sym (drop-append-le count (take room before) (drop room before) (omega (arith, u.within, front)))
+            ∙ ap (λ (l : List ℕ). drop count l) (take-append-drop room before);
+        size = omega (arith, length-append buffer (drop room before), length-drop room before, u.size, front);
+        breaks = u.breaks;
+        left = u.left;
+      }
+
   breaks_at_fault : (n : ℕ) (f : F) → broken_off {P = P} n (fault f) ≡ Some (Unreadable f)
   unfolding broken_off
   breaks_at_fault zero f = refl
@@ -215,3 +237,32 @@ module _ {P F : Type 0} where
       ∙ ap (λ (l : List ℕ). take count buffer ++ l) (sym u.untouched)
       ∙ take-append-drop count buffer)
       (ap (λ (n : ℕ). after_bytes n start) (sym e) ∙ u.left ∙ ap (λ (r : Rest P F). after_bytes (room - count) r) is ∙ left_at_end (room - count) ∙ sym (ap after_next is))
+
+  -- ## The parts of what load comes to
+
+  pub parts :
+      {l : Loaded P F} {a : Result ℕ (LoadFault P F)} {m : List ℕ} {r : Rest P F}
+      → l ≡ record { answer = a; memory = m; left = r }
+      → (a ≡ l.answer) × (m ≡ l.memory) × (r ≡ l.left)
+  parts e = rw e (refl, refl, refl)
+
+  pub joined :
+      (l : Loaded P F) {a : Result ℕ (LoadFault P F)} {m : List ℕ} {r : Rest P F}
+      → a ≡ l.answer
+      → m ≡ l.memory
+      → r ≡ l.left
+      → l ≡ record { answer = a; memory = m; left = r }
+  joined l p q r = result (sym p) (sym q) (sym r)
+
+  pub zeroed :
+      (start : Rest P F) (before : List ℕ) (e : LoadFault P F)
+      → Err e ≡ (loaded start before).answer
+      → replicate (length before) 0 ≡ (loaded start before).memory
+  zeroed start before e h = go (broken_off (room_of before) start) h
+    where
+      go :
+          (o : Option (LoadFault P F))
+          → Err e ≡ (outcome o (bytes_of start) before (after_bytes (room_of before) start)).answer
+          → replicate (length before) 0 ≡ (outcome o (bytes_of start) before (after_bytes (room_of before) start)).memory
+      go None k = let z : ◌≡◌ {A = ℕ} 0 1 = cc in absurd (omega arith)
+      go (Some x) k = refl

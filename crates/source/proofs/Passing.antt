@@ -1,5 +1,5 @@
 -- One turn of the loop that passes blanks and comments: the text means the same from the next character on.
-use Rattle.std.proofs.Common.{◌≡◌, ℕ, ◌+◌, ◌<◌, ◌≤◌, Bool, true, false, cond, not, eqb, List, ◌∷◌, length, get_or, drop, sym, refl, ◌∙◌, arith}
+use Rattle.std.proofs.Common.{◌≡◌, ℕ, ◌+◌, ◌<◌, ◌≤◌, Bool, true, false, cond, not, eqb, List, ◌∷◌, length, get_or, drop, sym, refl, ◌∙◌}
 use Rattle.std.proofs.lemmas.List.{at_drop_all, at_drop_more}
 use Rattle.std.proofs.lemmas.Bool.{eqb-true, eqb-false}
 use Rattle.source.specs.declared.hex.Position.{Position}
@@ -43,17 +43,3 @@ blank-passed t i at h e = sym (at_one t i at h ∙ blank_on (get_or t i 0) (drop
 pub read_to_end : (within : Bool) (t : List ℕ) (i : ℕ) (at : Position) → length t ≤ i → between (drop i t) at ≡ reading within t i at
 read_to_end true t i at h = at_end t i at h ∙ sym (at_drop_all (λ l. comment l at) t i h ∙ comment_left at)
 read_to_end false t i at h = refl
-
-pub few_lines : (c n : ℕ) (at : Position) → at.line ≤ n + 1 → (advanced c at).line ≤ n + 1 + 1
-few_lines c n at h = go (eqb c 10) refl
-  where
-    go : (b : Bool) → eqb c 10 ≡ b → (advanced c at).line ≤ n + 1 + 1
-    go true e = rw e (omega arith)
-    go false e = rw e (omega arith)
-
-pub few_columns : (c n : ℕ) (at : Position) → at.column ≤ n + 1 → (advanced c at).column ≤ n + 1 + 1
-few_columns c n at h = go (eqb c 10) refl
-  where
-    go : (b : Bool) → eqb c 10 ≡ b → (advanced c at).column ≤ n + 1 + 1
-    go true e = rw e (omega arith)
-    go false e = rw e (omega arith)

@@ -1,22 +1,24 @@
 // Hex text as a source: two adjacent hex digits are a byte, and blanks and comments stand between bytes.
 ghost use Rattle.std.specs.Prelude.{◌≡◌, ◌+◌, ◌^◌, ◌<◌, ◌≤◌, length, drop, slice_index};
+ghost use Rattle.bytecode.specs.Outcome.{report};
 ghost use Rattle.source.specs.Rest.{next_of};
 ghost use Rattle.source.specs.Hex.{digit_of, blank, advanced, between, right, hex_text};
 ghost use Rattle.source.specs.Numbers.{text_shown};
-ghost use Rattle.source.specs.Skipping.{Inside, Solid};
+ghost use Rattle.source.specs.Skipping.{Solid};
 
 use crate::Source;
 use crate::loader::LoadFault;
+use bytecode::refusal::Report;
 
 /// Where a character stands: its line and its column, both from 1. Only 0A ends a line; any other byte is one column.
-#[derive(Clone, Copy)]
+#[derive(Clone, Copy, Debug, PartialEq, Eq)]
 pub struct Position {
     pub line: usize,
     pub column: usize,
 }
 
 /// Why hex text cannot be read on, and where.
-#[derive(Clone, Copy)]
+#[derive(Clone, Copy, Debug, PartialEq, Eq)]
 pub enum TextFault {
     /// A character that is no digit, no blank and not in a comment.
     BadCharacter(Position),
@@ -24,11 +26,13 @@ pub enum TextFault {
     LoneDigit(Position),
 }
 
-// How far a text is read: the offset of the next character, and its position.
+// How far a text is read: the offset of the next character, and its position. It has come no more lines or columns than characters.
 #[derive(Clone, Copy)]
 struct Cursor {
     offset: usize,
     at: Position,
+    ghost lines: { at.line ≤ offset + 1 },
+    ghost columns: { at.column ≤ offset + 1 },
 }
 
 /// Hex text that is read from the cursor on.
@@ -36,7 +40,7 @@ struct Cursor {
 pub struct HexText<'a> {
     text: &'a [u8],
     cursor: Cursor,
-    ghost within: { Inside text.now cursor },
+    ghost within: { cursor.offset ≤ length text.now },
 }
 
 impl<'a> HexText<'a> {
@@ -56,27 +60,22 @@ impl<'a> HexText<'a> {
 fn digit(c: u8) -> Option<u8>
     ensures { result ≡ digit_of c }
 {
-    match c {
-        b'0'..=b'9' => Some(c - b'0'),
-        b'A'..=b'F' => Some(c - b'A' + 10),
-        b'a'..=b'f' => Some(c - b'a' + 10),
-        _ => None,
-    }
+    let digit = char::from(c).to_digit(16)?;
+    Some(digit as u8)
 }
 
 fn is_blank(c: u8) -> bool
     ensures { result ≡ blank c }
 {
-    c == b' ' || c == b'\t' || c == b'\n' || c == b'\r'
+    matches!(c, b' ' | b'\t' | b'\n' | b'\r')
 }
 
 impl Cursor {
     // The cursor behind the character `c`, which it stands at.
     fn advance(self, c: u8) -> Cursor
-        requires offset_bound { self.offset < 2 ^ 63 }
-        requires line_bound { self.at.line ≤ self.offset + 1 }
-        requires column_bound { self.at.column ≤ self.offset + 1 }
-        ensures { result ≡ record { offset = self.offset + 1; at = advanced c self.at } }
+        requires { self.offset < 2 ^ 63 }
+        ensures offset { result.offset ≡ self.offset + 1 }
+        ensures at { result.at ≡ advanced c self.at }
     {
         let at = self.at;
         let next = if c == b'\n' {
@@ -98,10 +97,9 @@ impl Cursor {
 
     // The cursor behind the byte whose first digit it stands at.
     fn behind_byte(self) -> Cursor
-        requires offset_bound { self.offset < 2 ^ 63 }
-        requires line_bound { self.at.line ≤ self.offset + 1 }
-        requires column_bound { self.at.column ≤ self.offset + 1 }
-        ensures { result ≡ record { offset = self.offset + 2; at = right (right self.at) } }
+        requires { self.offset < 2 ^ 63 }
+        ensures offset { result.offset ≡ self.offset + 2 }
+        ensures at { result.at ≡ right (right self.at) }
     {
         let at = Position {
             line: self.at.line,
@@ -116,23 +114,22 @@ impl Cursor {
 
 // The cursor behind the blanks and comments that stand at `from`.
 fn skip_blanks(text: &[u8], from: Cursor) -> Cursor
-    requires { Inside text.now from }
-    ensures inside { Inside text.now result }
+    requires { from.offset ≤ length text.now }
+    ensures inside { result.offset ≤ length text.now }
     ensures same { between (drop result.offset text.now) result.at ≡ between (drop from.offset text.now) from.at }
     ensures passed { result.offset < length text.now → Solid (slice_index text.now result.offset) }
 {
     let mut here = from;
     let mut in_comment = false;
-    while here.offset < text.len() {
-        let c = text[here.offset];
+    for c in &text[from.offset..] {
         if in_comment {
-            in_comment = c != b'\n';
-        } else if c == b'#' {
+            in_comment = *c != b'\n';
+        } else if *c == b'#' {
             in_comment = true;
-        } else if !is_blank(c) {
+        } else if !is_blank(*c) {
             return here;
         }
-        here = here.advance(c);
+        here = here.advance(*c);
     }
     here
 }
@@ -143,18 +140,14 @@ fn byte_at(text: &[u8], here: Cursor) -> Result<Option<u8>, TextFault>
     requires solid { here.offset < length text.now → Solid (slice_index text.now here.offset) }
     ensures { result ≡ next_of (between (drop here.offset text.now) here.at) }
 {
-    if here.offset == text.len() {
+    let Some(first) = text.get(here.offset) else {
         return Ok(None);
-    }
-    let Some(high) = digit(text[here.offset]) else {
-        return Err(TextFault::BadCharacter(here.at));
     };
-    if here.offset + 1 == text.len() {
-        return Err(TextFault::LoneDigit(here.at));
-    }
-    let Some(low) = digit(text[here.offset + 1]) else {
-        return Err(TextFault::LoneDigit(here.at));
-    };
+    let high = digit(*first).ok_or(TextFault::BadCharacter(here.at))?;
+    let second = text
+        .get(here.offset + 1)
+        .ok_or(TextFault::LoneDigit(here.at))?;
+    let low = digit(*second).ok_or(TextFault::LoneDigit(here.at))?;
     Ok(Some(high * 16 + low))
 }
 
@@ -184,16 +177,20 @@ impl Source for HexText<'_> {
     }
 }
 
-impl LoadFault<Position, TextFault> {
-    /// The number of a fault of loading hex text (1 bad character, 2 lone digit, 3 too long), and its line and column.
-    pub fn shown(&self) -> (u8, usize, usize)
-        ensures { result ≡ text_shown self.now }
-    {
-        let (number, at) = match self {
+/// The numbers of the faults of loading hex text are 1, bad character, 2, lone digit, and 3, too long; the place is line and column.
+impl From<&LoadFault<Position, TextFault>> for Report {
+    ghost from_gives = { λ fault r. r ≡ report (text_shown fault.now) };
+
+    fn from(fault: &LoadFault<Position, TextFault>) -> Report {
+        let (number, at) = match fault {
             LoadFault::Unreadable(TextFault::BadCharacter(at)) => (1, at),
             LoadFault::Unreadable(TextFault::LoneDigit(at)) => (2, at),
             LoadFault::TooLong(at) => (3, at),
         };
-        (number, at.line, at.column)
+        Report {
+            number,
+            first: at.line,
+            second: at.column,
+        }
     }
 }

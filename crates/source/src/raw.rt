@@ -1,10 +1,12 @@
 // Raw bytes as a source: the place of each is its offset, and there is no fault.
 ghost use Rattle.std.specs.Prelude.{◌≡◌, drop};
+ghost use Rattle.bytecode.specs.Outcome.{report};
 ghost use Rattle.source.specs.Numbers.{raw_shown};
 ghost use Rattle.source.specs.Raw.{raw};
 
 use crate::Source;
 use crate::loader::LoadFault;
+use bytecode::refusal::Report;
 use std::convert::Infallible;
 
 /// Bytes that are read from `offset` on.
@@ -31,30 +33,30 @@ impl Source for Raw<'_> {
     ghost rest = { λ s. raw (drop s.offset s.bytes.now) s.offset };
 
     fn next(&mut self) -> Result<Option<u8>, Infallible> {
-        if self.offset >= self.bytes.len() {
+        let Some(byte) = self.bytes.get(self.offset) else {
             return Ok(None);
-        }
-        let byte = self.bytes[self.offset];
+        };
         self.offset += 1;
-        Ok(Some(byte))
+        Ok(Some(*byte))
     }
 
     fn place(&self) -> Option<usize> {
-        if self.offset < self.bytes.len() {
-            Some(self.offset)
-        } else {
-            None
-        }
+        let _byte = self.bytes.get(self.offset)?;
+        Some(self.offset)
     }
 }
 
-impl LoadFault<usize, Infallible> {
-    /// The number of the one fault of loading raw bytes (3 too long), a 0, and the offset.
-    pub fn shown(&self) -> (u8, usize, usize)
-        ensures { result ≡ raw_shown self.now }
-    {
-        match self {
-            LoadFault::TooLong(offset) => (3, 0, *offset),
+/// The number of the one fault of loading raw bytes is 3, too long; its place is 0 and the offset.
+impl From<&LoadFault<usize, Infallible>> for Report {
+    ghost from_gives = { λ fault r. r ≡ report (raw_shown fault.now) };
+
+    fn from(fault: &LoadFault<usize, Infallible>) -> Report {
+        match fault {
+            LoadFault::TooLong(offset) => Report {
+                number: 3,
+                first: 0,
+                second: *offset,
+            },
             LoadFault::Unreadable(never) => match *never {},
         }
     }

@@ -3,6 +3,7 @@
 // Cases of raw bytes, hex text and load, each with the whole buffer that they leave.
 #[cfg(test)]
 mod tests {
+    use bytecode::refusal::Report;
     use source::Source;
     use source::hex::{HexText, Position, TextFault};
     use source::loader::{LoadFault, load};
@@ -13,24 +14,27 @@ mod tests {
     // Loads `text` over eight bytes of AA, and compares how many were loaded and what the buffer holds then.
     fn loads(rt: &impl Abort, case: &str, text: &[u8], count: usize, after: [u8; 8]) {
         let mut buffer = [0xAA; 8];
-        match load(&mut HexText::new(text), &mut buffer) {
-            Ok(n) => assert_eq!(rt; (n, buffer), (count, after), "{case}"),
-            Err(fault) => assert_eq!(rt; fault.shown(), (0, 0, 0), "{case}"),
-        }
+        let answer = load(&mut HexText::new(text), &mut buffer).map_err(|fault| Report::from(
+            &fault,
+        ));
+        assert_eq!(rt; (answer, buffer), (Ok(count), after), "{case}");
     }
 
     // The same where the text is refused: its number, line and column, and a buffer that is all zero.
     fn refuses(rt: &impl Abort, case: &str, text: &[u8], number: u8, line: usize, column: usize) {
         let mut buffer = [0xAA; 8];
-        match load(&mut HexText::new(text), &mut buffer) {
-            Ok(n) => assert_eq!(rt; (0, n, 0), (number, line, column), "{case}"),
-            Err(fault) => {
-                assert_eq!(rt;
-                    (fault.shown(), buffer),
-                    ((number, line, column), [0; 8]),
-                    "{case}"
-                );
-            }
+        let answer = load(&mut HexText::new(text), &mut buffer).map_err(|fault| Report::from(
+            &fault,
+        ));
+        let report = report(number, line, column);
+        assert_eq!(rt; (answer, buffer), (Err(report), [0; 8]), "{case}");
+    }
+
+    fn report(number: u8, first: usize, second: usize) -> Report {
+        Report {
+            number,
+            first,
+            second,
         }
     }
 
@@ -143,19 +147,14 @@ mod tests {
         let mut buffer = [0xAA; 3];
         assert!(rt; matches!(load(&mut Raw::new(&[1, 2]), &mut buffer), Ok(2)));
         assert_eq!(rt; buffer, [1, 2, 0xAA]);
-        match load(&mut Raw::new(&[1, 2, 3, 4]), &mut buffer) {
-            Ok(n) => assert_eq!(rt; (0, n, 0), (3, 0, 3)),
-            Err(fault) => assert_eq!(rt; (fault.shown(), buffer), ((3, 0, 3), [0; 3])),
-        }
+        let answer = load(&mut Raw::new(&[1, 2, 3, 4]), &mut buffer).map_err(|fault| Report::from(
+            &fault,
+        ));
+        assert_eq!(rt; (answer, buffer), (Err(report(3, 0, 3)), [0; 3]));
     }
 
     fn filled_with(bytes: &[u8], value: u8) -> bool {
-        for b in bytes {
-            if *b != value {
-                return false;
-            }
-        }
-        true
+        bytes.iter().all(|b| *b == value)
     }
 
     // A text of `digits` digits 1 over a buffer of `size` bytes AA: how many bytes of 11, or the fault with a zero buffer.
@@ -164,22 +163,20 @@ mod tests {
         case: &str,
         digits: usize,
         size: usize,
-        loaded: Result<usize, (u8, usize, usize)>,
+        loaded: Result<usize, Report>,
     ) -> Result<(), Fail> {
         let text = vec![in rt.alloc(); b'1'; digits]?;
         let mut buffer = vec![in rt.alloc(); 0xAAu8; size]?;
         let bytes = buffer.as_mut_slice();
-        match load(&mut HexText::new(&text), bytes) {
+        let answer = load(&mut HexText::new(&text), bytes).map_err(|fault| Report::from(&fault));
+        assert_eq!(rt; answer, loaded, "{case}");
+        match answer {
             Ok(n) => {
-                assert_eq!(rt; Ok(n), loaded, "{case}");
                 assert!(rt; n <= bytes.len(), "{case}");
-                assert!(rt; filled_with(&bytes[0..n], 0x11), "{case}");
+                assert!(rt; filled_with(&bytes[..n], 0x11), "{case}");
                 assert!(rt; filled_with(&bytes[n..], 0xAA), "{case}");
             }
-            Err(fault) => {
-                assert_eq!(rt; Err(fault.shown()), loaded, "{case}");
-                assert!(rt; filled_with(bytes, 0), "{case}");
-            }
+            Err(_) => assert!(rt; filled_with(bytes, 0), "{case}"),
         }
         Ok(())
     }
@@ -187,14 +184,14 @@ mod tests {
     #[test]
     fn limits(rt: HostRuntime) -> Result<(), Fail> {
         many(&rt, "no buffer", 0, 0, Ok(0))?;
-        many(&rt, "no buffer, a byte", 2, 0, Err((3, 1, 1)))?;
+        many(&rt, "no buffer, a byte", 2, 0, Err(report(3, 1, 1)))?;
         many(&rt, "a short buffer, full", 200, 100, Ok(100))?;
         many(
             &rt,
             "a short buffer, one too many",
             202,
             100,
-            Err((3, 1, 201)),
+            Err(report(3, 1, 201)),
         )?;
         many(&rt, "the limit", 32768, 16384, Ok(16384))?;
         many(&rt, "the limit in a longer buffer", 32768, 16400, Ok(16384))?;
@@ -203,8 +200,14 @@ mod tests {
             "the limit, then a digit",
             32769,
             16400,
-            Err((2, 1, 32769)),
+            Err(report(2, 1, 32769)),
         )?;
-        many(&rt, "one past the limit", 32770, 16400, Err((3, 1, 32769)))
+        many(
+            &rt,
+            "one past the limit",
+            32770,
+            16400,
+            Err(report(3, 1, 32769)),
+        )
     }
 }

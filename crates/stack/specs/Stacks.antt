@@ -1,5 +1,5 @@
 -- A bounded stack over lent entries: what it holds, and what its calls do to that.
-use Rattle.std.specs.Prelude.{ℕ, ◌≤◌, cond, List, [], ◌∷◌, reverse, length, take, nat_lt}
+use Rattle.std.specs.Prelude.{ℕ, cond, List, [], ◌∷◌, reverse, length, take, nat_lt}
 use Rattle.stack.specs.declared.Stack.{Stack}
 
 -- all entries that were lent, in their order in memory
@@ -17,10 +17,6 @@ stored s = take s.len (entries s)
 -- what the stack holds, the newest first
 abbrev pub held : {T : Type 0} → Stack T → List T
 held s = reverse (stored s)
-
--- no more is held than there is room for: so it is at the start, and every call keeps it so
-abbrev pub Sound : {T : Type 0} → Stack T → Type 0
-Sound s = s.len ≤ limit s
 
 -- an entry more on top, unless as many are held as there is room for
 abbrev pub pushed : {T : Type 0} → ℕ → List T → T → List T

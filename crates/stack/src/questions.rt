@@ -1,11 +1,18 @@
 // What a stack can be asked. Nothing changes.
 ghost use Rattle.std.specs.Prelude.{◌≡◌, ◌-◌, ◌<◌, ◌≤◌, slice_index_or, slice_range};
 ghost use Rattle.std.specs.List.{slice_get};
-ghost use Rattle.stack.specs.Stacks.{entries, limit, stored, held, Sound};
+ghost use Rattle.stack.specs.Stacks.{entries, limit, stored, held};
 
 use crate::Stack;
 
 impl<'a, T: Copy> Stack<'a, T> {
+    // What is held, the oldest first.
+    fn stored(&self) -> &[T]
+        ensures { result.now ≡ stored self.now }
+    {
+        &self.room[..self.len]
+    }
+
     /// How many entries are held.
     pub fn len(&mut self) -> usize
         ensures value { result ≡ self.old.len }
@@ -16,7 +23,6 @@ impl<'a, T: Copy> Stack<'a, T> {
 
     /// How many more entries there is room for.
     pub fn left(&mut self) -> usize
-        requires sound { Sound self.old }
         ensures value { result ≡ limit self.old - self.old.len }
         ensures same { self.new ≡ self.old }
     {
@@ -25,28 +31,18 @@ impl<'a, T: Copy> Stack<'a, T> {
 
     /// The entry at a depth, the newest at 0.
     pub fn peek(&mut self, depth: usize) -> Option<T>
-        requires sound { Sound self.old }
         ensures value { result ≡ slice_get (held self.old) depth }
         ensures same { self.new ≡ self.old }
     {
-        if depth < self.len {
-            Some(self.room[self.len - 1 - depth])
-        } else {
-            None
-        }
+        self.stored().iter().rev().nth(depth).copied()
     }
 
     /// The entry at a position, the oldest at 0.
     pub fn get(&mut self, i: usize) -> Option<T>
-        requires sound { Sound self.old }
         ensures value { result ≡ slice_get (stored self.old) i }
         ensures same { self.new ≡ self.old }
     {
-        if i < self.len {
-            Some(self.room[i])
-        } else {
-            None
-        }
+        self.stored().get(i).copied()
     }
 
     /// The lent entry at a position, held or not.

@@ -1,7 +1,7 @@
 // Changes that are tested first, and refused where there is no room or no such entry.
 ghost use Rattle.std.specs.Prelude.{◌≡◌, ◌+◌, ◌-◌, min, drop, is_ok, if◌then◌else◌, nat_lt, slice_set};
 ghost use Rattle.std.specs.List.{slice_get};
-ghost use Rattle.stack.specs.Stacks.{entries, limit, stored, held, pushed, older, Sound};
+ghost use Rattle.stack.specs.Stacks.{entries, limit, stored, held, pushed, older};
 
 use crate::{Full, NoEntry, Stack};
 
@@ -14,8 +14,7 @@ impl<'a, T: Copy> Stack<'a, T> {
         ensures held { held self.new ≡ pushed (limit self.old) (held self.old) x }
     {
         if self.len < self.room.len() {
-            self.room[self.len] = x;
-            self.len += 1;
+            self.push_within(x);
             Ok(())
         } else {
             Err(Full)
@@ -24,7 +23,6 @@ impl<'a, T: Copy> Stack<'a, T> {
 
     /// Takes the newest entry off, if there is one.
     pub fn pop(&mut self) -> Option<T>
-        requires sound { Sound self.old }
         ensures value { result ≡ slice_get (held self.old) 0 }
         ensures entries { entries self.new ≡ entries self.old }
         ensures len { self.new.len ≡ self.old.len - 1 }
@@ -33,14 +31,11 @@ impl<'a, T: Copy> Stack<'a, T> {
         if self.len == 0 {
             return None;
         }
-        let newest = self.room[self.len - 1];
-        self.len -= 1;
-        Some(newest)
+        Some(self.pop_within())
     }
 
     /// Writes the entry at a position, the oldest at 0; refused where there is none.
     pub fn set(&mut self, i: usize, x: T) -> Result<(), NoEntry>
-        requires sound { Sound self.old }
         ensures answer { is_ok result ≡ nat_lt i self.old.len }
         ensures entries { entries self.new ≡ (if nat_lt i self.old.len then slice_set (entries self.old) i x else entries self.old) }
         ensures len { self.new.len ≡ self.old.len }
@@ -56,13 +51,10 @@ impl<'a, T: Copy> Stack<'a, T> {
 
     /// Keeps the oldest `n` entries, or all where there are fewer.
     pub fn truncate(&mut self, n: usize)
-        requires sound { Sound self.old }
         ensures entries { entries self.new ≡ entries self.old }
         ensures len { self.new.len ≡ min n self.old.len }
         ensures held { held self.new ≡ drop (self.old.len - n) (held self.old) }
     {
-        if n < self.len {
-            self.len = n;
-        }
+        self.len = self.len.min(n);
     }
 }

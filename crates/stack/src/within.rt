@@ -1,6 +1,6 @@
 // Changes that test nothing: the caller shows that the room or the entry is there.
 ghost use Rattle.std.specs.Prelude.{◌≡◌, ◌+◌, ◌-◌, ◌<◌, ◌≤◌, slice_index_or, slice_set};
-ghost use Rattle.stack.specs.Stacks.{entries, limit, Sound};
+ghost use Rattle.stack.specs.Stacks.{entries, limit};
 
 use crate::Stack;
 
@@ -18,7 +18,6 @@ impl<'a, T: Copy> Stack<'a, T> {
     /// Takes the newest entry off, where there is one.
     pub fn pop_within(&mut self) -> T
         requires some { 0 < self.old.len }
-        requires sound { Sound self.old }
         ensures value { (d : T) → result ≡ slice_index_or (entries self.old) (self.old.len - 1) d }
         ensures entries { entries self.new ≡ entries self.old }
         ensures len { self.new.len ≡ self.old.len - 1 }

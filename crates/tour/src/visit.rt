@@ -1,27 +1,18 @@
 // One program, from its text to the end of its last run.
 ghost use Rattle.verifier.specs.Checking.{Checked};
-ghost use Rattle.machine.specs.View.{Intact};
 
+use bytecode::refusal::Report;
+use execution::Lent;
 use heap::{BlockRecord, Cell};
 use host::drive::Drive;
-use machine::sizes::allows;
-use machine::stops::stop_number;
-use machine::{Machine, Outcome};
+use machine::sizes::{Sizes, allows};
+use machine::{Machine, NoFrame, Outcome, Over, SizesRefused};
 use runtime::FrameRecord;
 use shapes::table::{ShapeMark, ShapeRecord, blank_record};
 use source::hex::HexText;
 use source::loader::load;
 use std::io;
 use verifier::program::{Program, check};
-
-// Sizes of the memory of a machine.
-#[derive(Clone, Copy)]
-struct Sizes {
-    slots: usize,
-    frames: usize,
-    cells: usize,
-    records: usize,
-}
 
 // How many values are on the stack at each place.
 fn show_plans(rt: &HostRuntime, table: &[ShapeRecord]) -> io::Result<()> {
@@ -55,7 +46,7 @@ fn show_outcome(rt: &HostRuntime, outcome: Outcome) -> io::Result<()> {
             place,
             steps,
         } => {
-            let number = stop_number(stop);
+            let number = stop.number();
             println!(rt;
                 "  It stopped with {number} in function {function} at {place} after {steps} steps."
             )?;
@@ -80,29 +71,24 @@ fn slice(
     machine: &mut Machine<'_, '_>,
     drive: &mut Drive,
     allowance: u32,
-) -> io::Result<()>
-    requires { Intact machine.old }
-    ensures { Intact machine.new }
-{
+) -> io::Result<()> {
     println!(rt; "run, {allowance} steps at most:")?;
     match machine.run(drive, allowance) {
         Ok(outcome) => show_outcome(rt, outcome)?,
-        Err(_) => println!(rt; "  Refused with 32: it is over. Nothing changed.")?,
+        Err(Over) => println!(rt; "  Refused with 32: it is over. Nothing changed.")?,
     }
     match machine.look(0) {
         Ok(view) => println!(rt;
             "  Its newest frame: function {}, place {}, {} on the stack.",
             view.function, view.place, view.depth
         )?,
-        Err(_) => println!(rt; "  It has no frame any more.")?,
+        Err(NoFrame) => println!(rt; "  It has no frame any more.")?,
     }
     show_drive(rt, drive)
 }
 
 // All slices in their order.
-fn serve(rt: &HostRuntime, machine: &mut Machine<'_, '_>, slices: &[u32]) -> io::Result<()>
-    requires { Intact machine.old }
-{
+fn serve(rt: &HostRuntime, machine: &mut Machine<'_, '_>, slices: &[u32]) -> io::Result<()> {
     let mut drive = Drive::new();
     for allowance in slices {
         slice(rt, machine, &mut drive, *allowance)?;
@@ -111,36 +97,24 @@ fn serve(rt: &HostRuntime, machine: &mut Machine<'_, '_>, slices: &[u32]) -> io:
 }
 
 // Starts an accepted program, and runs it.
-fn run(rt: &HostRuntime, program: Program<'_>, sizes: &Sizes, slices: &[u32]) -> io::Result<()>
+fn run(rt: &HostRuntime, program: Program<'_>, sizes: Sizes, slices: &[u32]) -> io::Result<()>
     requires { Checked program }
 {
-    if let Err(_) = allows(
-        &program,
-        sizes.slots,
-        sizes.frames,
-        sizes.cells,
-        sizes.records,
-    ) {
+    if let Err(SizesRefused) = allows(&program, sizes) {
         return println!(rt; "Its memory is refused with 30.");
     }
+    // The tour shows what a builder writes, so it makes the memory here, in the same four lines as `console`.
     let mut slots = vec![in rt.alloc(); 0u64; sizes.slots]?;
-    let mut frames = vec![in rt.alloc(); FrameRecord {
-        function: 0,
-        place: 0,
-        base: 0
-    }; sizes.frames]?;
-    let mut cells = vec![in rt.alloc(); Cell {
-        bytes: [0; 8],
-        mark: false
-    }; sizes.cells]?;
-    let mut records = vec![in rt.alloc(); BlockRecord {
-        start: 0,
-        from: 0,
-        end: 0,
-        count: 0,
-        size: 0
-    }; sizes.records]?;
-    let mut machine = Machine::start(program, &mut slots, &mut frames, &mut cells, &mut records);
+    let mut frames = vec![in rt.alloc(); FrameRecord::default(); sizes.frames]?;
+    let mut cells = vec![in rt.alloc(); Cell::default(); sizes.cells]?;
+    let mut records = vec![in rt.alloc(); BlockRecord::default(); sizes.records]?;
+    let memory = Lent {
+        slots: &mut slots,
+        frames: &mut frames,
+        cells: &mut cells,
+        records: &mut records,
+    };
+    let mut machine = Machine::start(program, memory);
     println!(rt;
         "start, over {} slots, {} frames, {} cells and {} block records:",
         sizes.slots, sizes.frames, sizes.cells, sizes.records
@@ -153,6 +127,7 @@ fn run(rt: &HostRuntime, program: Program<'_>, sizes: &Sizes, slices: &[u32]) ->
 
 /// Loads, judges and runs a program, a run for each slice of steps.
 pub fn visit(rt: &HostRuntime, text: &str, slices: &[u32]) -> io::Result<()> {
+    // The buffer is lent to load itself, as the tour tells what a refusal leaves in it.
     let mut buffer = vec![in rt.alloc(); 0u8; 256]?;
     match load(&mut HexText::new(text.as_bytes()), &mut buffer) {
         Ok(count) => {
@@ -175,10 +150,14 @@ pub fn visit(rt: &HostRuntime, text: &str, slices: &[u32]) -> io::Result<()> {
                 cells: 16,
                 records: 4,
             };
-            run(rt, accepted.program, &sizes, slices)
+            run(rt, accepted.program, sizes, slices)
         }
         Err(refusal) => {
-            let (number, function, place) = refusal.shown();
+            let Report {
+                number,
+                first: function,
+                second: place,
+            } = Report::from(refusal);
             println!(rt; "check: refused with {number} in function {function} at {place}.")?;
             println!(rt;
                 "  Promised: no good plan exists for it, and the table is blank. It can never be started."

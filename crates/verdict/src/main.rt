@@ -2,36 +2,20 @@
 // takes, or `refused` with the number of the check that failed and its place.
 #![tactic(auto)]
 
+use intake::{Failure, RECORDS, read_hex};
 use shapes::table::blank_record;
-use source::hex::HexText;
-use source::loader::{LIMIT, load};
 use std::io;
-use std::io::Read;
 use verifier::program::check;
 
-// A record for each byte of code that a package can have.
-const RECORDS: usize = 4096;
-
-fn refused(rt: &HostRuntime, shown: (u8, usize, usize)) -> io::Result<()> {
-    let (number, first, second) = shown;
-    println!(rt; "refused {number} {first} {second}")
+fn judge(rt: &HostRuntime) -> Result<(), Failure> {
+    let bytes = read_hex(rt)?;
+    let mut table = vec![in rt.alloc(); blank_record(); RECORDS]?;
+    let accepted = check(&bytes, &mut table)?;
+    let functions = accepted.program.function_count();
+    println!(rt; "accepted {} {functions} {}", bytes.len(), accepted.takes)?;
+    Ok(())
 }
 
 fn main(rt: HostRuntime) -> io::Result<()> {
-    let mut text = Vec::new(rt.alloc());
-    rt.stdin().read_to_end(&mut text)?;
-    let mut buffer = vec![in rt.alloc(); 0u8; LIMIT]?;
-    match load(&mut HexText::new(&text), &mut buffer) {
-        Ok(count) => buffer.truncate(count),
-        Err(fault) => return refused(&rt, fault.shown()),
-    }
-    let mut table = vec![in rt.alloc(); blank_record(); RECORDS]?;
-    match check(&buffer, &mut table) {
-        Ok(accepted) => {
-            let bytes = accepted.program.bytes().len();
-            let functions = accepted.program.function_count();
-            println!(rt; "accepted {bytes} {functions} {}", accepted.takes)
-        }
-        Err(refusal) => refused(&rt, refusal.shown()),
-    }
+    judge(&rt).or_else(|failure| failure.print(&rt))
 }

@@ -1,87 +1,99 @@
--- Arguments as variables and on the stack.
-use Rattle.std.proofs.Common.{◌≡◌, ℕ, zero, suc, ◌+◌, ◌-◌, ◌<◌, ◌≤◌, List, [], ◌∷◌, ◌++◌, reverse, length, get_or, take, set, replicate, Some, None, sym, refl, ap, ◌∙◌, subst, append_assoc, arith}
-use Rattle.std.proofs.lemmas.List.{take_more, take_all, length-take-le, set-append_right, length-append, length-replicate}
+-- Arguments as variables and on the stack, and calls.
+use denote.Param.Members.{Mut, Called}
+use Rattle.std.specs.Array.{IsFromFnResult, IsFromFnResultFrom}
+use Rattle.std.proofs.Common.{◌≡◌, ℕ, zero, suc, ◌+◌, ◌-◌, ◌<◌, ◌≤◌, List, [], ◌∷◌, ◌++◌, map, reverse, length, get_or, take, replicate, Some, None, Option, sym, refl, ap, ◌∙◌, subst, arith}
+use Rattle.std.proofs.lemmas.List.{ext_get_or, length-append, length-map, length-replicate}
+use Rattle.std.proofs.lemmas.Option.{slice_get-get_or, slice_get_past}
+use Rattle.std.proofs.Math.Seq.{take-append_seam}
 use Rattle.bytecode.specs.declared.kind.Kind.{Kind}
-use Rattle.bytecode.specs.declared.kind.Kind.TheVariants.{Unknown}
-use Rattle.bytecode.specs.Program.{Function, Program}
-use Rattle.plan.specs.Programs.{nth, no_function, function_at}
-use Rattle.plan.specs.Plans.{entry_of}
-use Rattle.plan.specs.Effects.{fixed, call_static, call_native}
-use Rattle.plan.proofs.Indexing.{nth_there, nth_past}
-use Rattle.reader.specs.View.{no_native, native_in}
-use Rattle.shapes.specs.declared.act.Kinds.{Kinds}
-use Rattle.shapes.specs.declared.act.StackAct.TheVariants.{Fixed}
-use Rattle.shapes.specs.declared.table.ShapeMark.TheVariants.{Blank}
-use Rattle.shapes.specs.declared.table.ShapeRecord.{ShapeRecord}
-use Rattle.shapes.specs.Acts.{kinds_of}
-use Rattle.shapes.specs.Records.{stack_of, shape_in, blank_record, Tidy}
-use Rattle.shapes.proofs.Stacks.{stack_reverse, tidy_variables, whole_empty}
-use Rattle.verifier.specs.Acting.{acts_as, padded}
+use Rattle.bytecode.specs.Program.{Program, Signature as Meaning}
+use Rattle.plan.specs.Programs.{nth, no_function}
+use Rattle.plan.specs.Effects.{call, call_static, call_native}
+use Rattle.reader.specs.declared.package.Package.{Package}
+use Rattle.reader.specs.declared.package.Signature.{Signature}
+use Rattle.reader.specs.Entries.{signature_of}
+use Rattle.reader.specs.Layout.{kind_of}
+use Rattle.reader.specs.View.{program_of, function_in, no_native, native_in}
+use Rattle.shapes.specs.Stacks.{kind_in, AllKnown}
+use Rattle.verifier.specs.Acting.{padded, called, Few}
+use Rattle.verifier.proofs.Forming.{function_formed}
 
--- the first i arguments laid
-pub laid : List Kind → ℕ → List Kind
-laid ks i = take i ks ++ replicate (32 - i) Unknown
+-- ## Arguments
 
-pub laid_none : (ks : List Kind) → replicate 32 Unknown ≡ laid ks 0
-unfolding laid
-laid_none [] = refl
-laid_none (k ∷ ks) = refl
+length-padded : (ks : List Kind) → length ks ≤ 32 → length (padded ks) ≡ 32
+length-padded ks h =
+    omega (arith, length-append (map Some ks) (replicate (32 - length ks) None), length-map ks Some, length-replicate {A = Option Kind} (32 - length ks) None)
 
-first_set : (n : ℕ) (k : Kind) → 0 < n → set (replicate n Unknown) 0 k ≡ k ∷ replicate (n - 1) Unknown
-first_set zero k h = absurd (omega arith)
-first_set (suc n) k h = let e : suc n - 1 ≡ n = omega arith in rw e
+nones : (n i : ℕ) → get_or (replicate {A = Option Kind} n None) i None ≡ None
+nones zero i = refl
+nones (suc n) zero = refl
+nones (suc n) (suc i) = nones n i
 
-laid_more : (ks : List Kind) (i : ℕ) → i < length ks → i < 32 → set (laid ks i) i (get_or ks i Unknown) ≡ laid ks (i + 1)
-unfolding laid
-laid_more ks i h l =
-    let n : length (take i ks) ≡ i = length-take-le i ks (omega arith) in
-    let z : i - i ≡ 0 = omega arith in
-    let y : 32 - i - 1 ≡ 32 - (i + 1) = omega arith in
-    set-append_right (take i ks) (replicate (32 - i) Unknown) i i (get_or ks i Unknown) n (omega arith) ∙
-    ap (λ j. take i ks ++ set (replicate (32 - i) Unknown) j (get_or ks i Unknown)) z ∙
-    ap (λ xs. take i ks ++ xs) (first_set (32 - i) (get_or ks i Unknown) (omega arith)) ∙
-    ap (λ m. take i ks ++ (get_or ks i Unknown ∷ replicate m Unknown)) y ∙
-    sym (ap (λ xs. xs ++ replicate (32 - (i + 1)) Unknown) (take_more ks i Unknown h) ∙ append_assoc (take i ks) (get_or ks i Unknown ∷ []) (replicate (32 - (i + 1)) Unknown))
+padded_front : (ks : List Kind) (n i : ℕ) → get_or (map Some ks ++ replicate n None) i None ≡ nth ks i
+padded_front [] n i = nones n i
+padded_front (k ∷ ks) n zero = refl
+padded_front (k ∷ ks) n (suc i) = padded_front ks n i
 
-pub laid_step : (ks : List Kind) (i : ℕ) (entries : List Kind) (k : Kind) → i < length ks → i < 32 → entries ≡ laid ks i → k ≡ get_or ks i Unknown → set entries i k ≡ laid ks (i + 1)
-laid_step ks i entries k h l e d = ap (λ k. set entries i k) d ∙ ap (λ xs. set xs i (get_or ks i Unknown)) e ∙ laid_more ks i h l
+padded_at : (ks : List Kind) (i : ℕ) → get_or (padded ks) i None ≡ nth ks i
+padded_at ks i = padded_front ks (32 - length ks) i
 
-pub laid_all : (ks : List Kind) (i : ℕ) → i ≡ length ks → laid ks i ≡ padded ks
-unfolding laid
-laid_all ks i e = ap (λ n. take n ks ++ replicate (32 - n) Unknown) e ∙ ap (λ xs. xs ++ replicate (32 - length ks) Unknown) (take_all (length ks) ks (omega arith))
+-- an entry for each of the 32 variables, by calls that leave what is called as it was
+module _ {F : Type 0} (g : Mut F (ℕ × Unit {0}) (Option Kind)) (f : F) (ks : List Kind) (each : (i : ℕ) (y : Option Kind) (q : F) → Called g f (i, tt) y q → (y ≡ nth ks i) × (q ≡ f)) where
+  made_at : (ys : List (Option Kind)) (n i : ℕ) → IsFromFnResultFrom g f ys i n → (j : ℕ) → j < n → get_or ys (i + j) None ≡ nth ks (i + j)
+  made_at ys zero i h j l = absurd (omega arith)
+  made_at ys (suc n) i h zero l =
+      let z : i + 0 ≡ i = omega arith in
+      rw z (h.2.1 None ∙ (each i h.1 h.0 h.3).0)
+  made_at ys (suc n) i h (suc j) l =
+      let z : i + suc j ≡ (i + 1) + j = omega arith in
+      rw z (made_at ys n (i + 1) (subst (λ q. IsFromFnResultFrom g q ys (i + 1) n) (each i h.1 h.0 h.3).1 h.4) j (omega arith))
 
-pub laid_stack : (ks entries : List Kind) (n : ℕ) → n ≡ length ks → entries ≡ padded ks → stack_of n entries ≡ reverse ks
-laid_stack ks entries n e d =
-    ap (λ m. stack_of m entries) e ∙ ap (stack_of (length ks)) d ∙ stack_reverse ks (replicate (32 - length ks) Unknown)
+  pub made_padded : (ys : List (Option Kind)) → length ks ≤ 32 → IsFromFnResult g f ys 32 → ys ≡ padded ks
+  made_padded ys few h = ext_get_or None ys (padded ks) (h.long ∙ sym (length-padded ks few)) (λ i l. let z : 0 + i ≡ i = omega arith in subst (λ i. get_or ys i None ≡ nth ks i) z (made_at ys 32 0 h.each i (omega (arith, h.long))) ∙ sym (padded_at ks i))
+
+-- the front of the variables are the arguments
+front : (ks : List Kind) (n : ℕ) → n ≡ length ks → take n (padded ks) ≡ map Some ks
+front ks n e =
+    ap (λ m. take m (padded ks)) (e ∙ sym (length-map ks Some)) ∙ take-append_seam (map Some ks) (replicate (32 - length ks) None)
+
+kinds_back : (ks : List Kind) → map kind_in (map Some ks) ≡ ks
+kinds_back [] = refl
+kinds_back (k ∷ ks) = ap (λ xs. k ∷ xs) (kinds_back ks)
+
+pub front_kinds : (ks : List Kind) (vs : List (Option Kind)) (n : ℕ) → vs ≡ padded ks → n ≡ length ks → reverse (map kind_in (take n vs)) ≡ reverse ks
+front_kinds ks vs n d e = ap (λ xs. reverse (map kind_in (take n xs))) d ∙ ap (λ xs. reverse (map kind_in xs)) (front ks n e) ∙ ap reverse (kinds_back ks)
+
+known : (ks : List Kind) → AllKnown (map Some ks)
+known [] k l = absurd (omega arith)
+known (x ∷ ks) zero l = refl
+known (x ∷ ks) (suc k) l = known ks k (omega arith)
+
+pub front_known : (ks : List Kind) (vs : List (Option Kind)) (n : ℕ) → vs ≡ padded ks → n ≡ length ks → AllKnown (take n vs)
+front_known ks vs n d e = subst AllKnown (sym (ap (take n) d ∙ front ks n e)) (known ks)
 
 -- ## Calls
 
-pub call_none : (P : Program) (f : ℕ) → length P.functions ≤ f → call_static (nth P.functions f) ≡ None
-call_none P f h = ap call_static (nth_past P.functions f h)
+pub function_none : (P : Program) (f : ℕ) → length P.functions ≤ f → call_static (nth P.functions f) ≡ None
+function_none P f h = ap call_static (slice_get_past P.functions f h)
 
-pub call_some : (P : Program) (f : ℕ) (ks : Kinds) (k : Kind) → f < length P.functions → kinds_of ks ≡ reverse (function_at P f).signature.arguments
-    → k ≡ (function_at P f).signature.result → call_static (nth P.functions f) ≡ acts_as (Some (Fixed ks (Some k)))
-call_some P f ks k h e d =
-    ap call_static (nth_there P.functions f no_function h) ∙ (λ i. Some (fixed (sym e i) (sym d i ∷ [])))
+pub function_some : (P : Program) (f : ℕ) (s : Signature) → f < length P.functions → signature_of s ≡ (function_in P f).signature → call_static (nth P.functions f) ≡ called (Some s)
+function_some P f s h e = ap call_static (slice_get-get_or P.functions f no_function h) ∙ ap (λ s. Some (call s)) (sym e)
 
 pub native_none : (P : Program) (n : ℕ) → length P.natives ≤ n → call_native (nth P.natives n) ≡ None
-native_none P n h = ap call_native (nth_past P.natives n h)
+native_none P n h = ap call_native (slice_get_past P.natives n h)
 
-pub native_some : (P : Program) (n : ℕ) (ks : Kinds) (k : Kind) → n < length P.natives → kinds_of ks ≡ reverse (native_in P n).signature.arguments
-    → k ≡ (native_in P n).signature.result → call_native (nth P.natives n) ≡ acts_as (Some (Fixed ks (Some k)))
-native_some P n ks k h e d =
-    ap call_native (nth_there P.natives n no_native h) ∙ (λ i. Some (fixed (sym e i) (sym d i ∷ [])))
+pub native_some : (P : Program) (n : ℕ) (s : Signature) → n < length P.natives → signature_of s ≡ (native_in P n).signature → call_native (nth P.natives n) ≡ called (Some s)
+native_some P n s h e = ap call_native (slice_get-get_or P.natives n no_native h) ∙ ap (λ s. Some (call s)) (sym e)
 
--- ## The shape at the entry
+-- arguments are few
+pub function_few : (p : Package) (f : ℕ) (s : Signature) → f < length (program_of p).functions → signature_of s ≡ (function_in (program_of p) f).signature → Few s
+function_few p f s h e =
+    let g = function_formed p f h in
+    omega (arith, ap (λ (s : Meaning). length s.arguments) e, g.ordered, g.narrow)
 
-length-padded : (ks : List Kind) → length ks ≤ 32 → length (padded ks) ≡ 32
-length-padded ks h = length-append ks (replicate (32 - length ks) Unknown) ∙ (omega (arith, length-replicate (32 - length ks) Unknown))
+pub native_few : (s : Signature) → length s.argument_letters.now ≤ 4 → Few s
+native_few s h = omega (arith, length-map s.argument_letters.now kind_of)
 
-module _ (r : ShapeRecord) (e : r ≡ blank_record) (ks vs : List Kind) (d : vs ≡ padded ks) where
-  pub entry_shape : (g : Function) → ks ≡ g.signature.arguments
-      → shape_in (record { mark = r.mark; depth = r.depth; stack = r.stack; variables = vs }) ≡ entry_of g
-  entry_shape g a =
-      ap (λ (r : ShapeRecord). record { stack = stack_of r.depth r.stack; variables = vs }) e ∙ ap (λ ws. record { stack = []; variables = ws }) (d ∙ ap padded a)
+pub ruleset laying = (front_kinds, front_known)
 
-  pub entry_tidy : length ks ≤ 32 → Tidy (record { mark = r.mark; depth = r.depth; stack = r.stack; variables = vs })
-  entry_tidy h = tidy_variables r.mark vs r (subst Tidy (sym e) (whole_empty Blank).tidy) (ap length d ∙ length-padded ks h)
+pub ruleset calling = (function_none, function_some, function_few, native_none, native_some, native_few)

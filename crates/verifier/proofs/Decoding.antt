@@ -1,7 +1,6 @@
 -- Decoding one function after another.
 use Rattle.std.proofs.Common.{◌≡◌, ℕ, zero, suc, ◌+◌, ◌-◌, ◌<◌, ◌≤◌, Bool, false, List, ◌∷◌, map, length, take, drop, replicate, refl, ap, ◌∙◌, subst, arith}
-use lib.ListN.{length-map}
-use Rattle.std.proofs.lemmas.List.{take-replicate}
+use Rattle.std.proofs.lemmas.List.{length-map, take-replicate}
 use Rattle.bytecode.specs.Instructions.{starts_of}
 use Rattle.bytecode.specs.Outcome.{Fault, Out, bad, good, bind}
 use Rattle.bytecode.specs.Program.{Program}

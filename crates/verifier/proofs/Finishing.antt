@@ -1,8 +1,6 @@
 -- The table when the sweep is over: the starts without a shape become blank, and the rest are the records of the shapes.
 use Rattle.std.proofs.Common.{◌≡◌, ℕ, zero, suc, ◌+◌, ◌-◌, ◌<◌, ◌≤◌, List, [], ◌∷◌, ◌++◌, map, length, get_or, take, drop, set, replicate, sym, refl, ap, ◌∙◌, append-nil, arith}
-use mathlib.Core.List.{map-append}
-use lib.ListN.{length-map}
-use Rattle.std.proofs.lemmas.List.{get_or_default, set-get_or, take_all, drop_all}
+use Rattle.std.proofs.lemmas.List.{length-map, map-append, get_or_default, take_all, drop_all}
 use Rattle.std.proofs.lemmas.List.Edits.{map_over_more}
 use Rattle.plan.specs.Shapes.{Shape}
 use Rattle.plan.specs.Sweep.{Cell, off, blank, marked, settled, Table, at, shape_of}
@@ -32,9 +30,8 @@ module _ (rs us : List ShapeRecord) (i : ℕ) (l : i < length rs) (k : i < lengt
   finish_start h =
       ap (λ m. set us i (record { mark = m; depth = (get_or us i no_record).depth; stack = (get_or us i no_record).stack; variables = (get_or us i no_record).variables })) (sym (ap finished_mark h)) ∙ next
 
-  pub finish_other : ((get_or us i no_record).mark ≡ Start → ⊥) → us ≡ map finished (take (i + 1) rs) ++ drop (i + 1) rs
-  finish_other n =
-      sym (set-get_or us i no_record) ∙
+  pub finish_kept : ((get_or us i no_record).mark ≡ Start → ⊥) → set us i (get_or us i no_record) ≡ map finished (take (i + 1) rs) ++ drop (i + 1) rs
+  finish_kept n =
       ap (λ m. set us i (record { mark = m; depth = (get_or us i no_record).depth; stack = (get_or us i no_record).stack; variables = (get_or us i no_record).variables })) (sym (other_mark (get_or us i no_record).mark n)) ∙
       next
 
@@ -78,3 +75,5 @@ finished_all room Ts n =
     ap (λ rs. rs ++ map finished (replicate (room - length (working_records Ts)) blank_record)) e ∙
     ap (λ rs. all_records Ts ++ rs) (finished_blank (room - length (working_records Ts))) ∙
     ap (λ k. all_records Ts ++ replicate (room - k) blank_record) l
+
+pub ruleset finishing = (finish_start, finish_kept, finish_all)

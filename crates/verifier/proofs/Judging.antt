@@ -1,8 +1,7 @@
 -- What check comes to, step by step, and what its answer says of the plans.
 use Rattle.std.proofs.Common.{◌≡◌, ℕ, zero, suc, ◌+◌, ◌-◌, ◌<◌, ◌≤◌, Bool, true, false, leb, List, [], ◌∷◌, ◌++◌, map, length, get_or, replicate, Ok, Err, Result, sym, refl, ap, ◌∙◌, subst, append_assoc, arith, le-leb}
-use lib.ListN.{length-map}
-use borrow.Author.Tests.{lt-leb}
-use Rattle.std.proofs.lemmas.List.{get_or_append_left, get_or-append_right, get_or-append-add, get_or-map, get_or-replicate, length-append, length-replicate}
+use Rattle.std.proofs.lemmas.Bool.{lt-leb}
+use Rattle.std.proofs.lemmas.List.{length-map, get_or_append_left, get_or-append_right, get_or-append-add, get_or-map, get_or-replicate, length-append, length-replicate}
 use Rattle.bytecode.specs.declared.refusal.Refusal.{Refusal}
 use Rattle.bytecode.specs.Outcome.{Fault, Out, bad, good, bind, shown, told}
 use Rattle.bytecode.specs.Program.{Program}
@@ -218,3 +217,7 @@ module _ (bytes : List ℕ) (m room : ℕ) (n : m ≡ room) (formed : (P : Progr
 
 pub blank_filled : (ts : List ShapeRecord) (v : ShapeRecord) (n m : ℕ) → ts ≡ replicate n v → v ≡ blank_record → n ≡ m → ts ≡ replicate m blank_record
 blank_filled ts v n m e d h = e ∙ (λ i. replicate (h i) (d i))
+
+pub ruleset steps = (check_unread, check_small, check_undecoded, check_unswept, check_accepted)
+
+pub ruleset deciding = (same_room, accepted_table, blank_filled)

@@ -9,3 +9,4 @@ mod Decoding
 mod Sweeping
 mod Finishing
 mod Judging
+pub mod Faults

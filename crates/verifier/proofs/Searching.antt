@@ -1,36 +1,51 @@
 -- The search for the lowest mark, from a place below which nothing is marked.
-use Rattle.std.proofs.Common.{◌≡◌, ℕ, zero, suc, ◌+◌, ◌<◌, ◌≤◌, List, [], ◌∷◌, map, length, get_or, drop, set, sym, refl, ap, ◌∙◌, arith}
-use Rattle.std.proofs.lemmas.List.{at_drop_more, at_drop_all, drop-map}
+use Rattle.std.proofs.Common.{◌≡◌, ℕ, zero, suc, ◌+◌, ◌-◌, ◌<◌, ◌≤◌, Bool, true, false, not, cond, ltb, ltb-true, Some, None, length-drop, take, List, [], ◌∷◌, map, length, drop, set, sym, refl, ap, ◌∙◌, arith}
+use Rattle.std.proofs.lemmas.Bool.{ltb-false}
+use Rattle.std.proofs.lemmas.List.{length-map, take_all, drop-map}
+use Rattle.std.specs.List.{position, position_or_len}
 use Rattle.plan.specs.Shapes.{Shape}
 use Rattle.plan.specs.Sweep.{Cell, off, blank, marked, settled, Table, lowest}
 use Rattle.shapes.specs.declared.table.ShapeMark.{ShapeMark}
 use Rattle.shapes.specs.declared.table.ShapeMark.TheVariants.{Blank, Start, Due, Shaped}
 use Rattle.shapes.specs.declared.table.ShapeRecord.{ShapeRecord}
-use Rattle.shapes.specs.Records.{cell_of, cell_as}
+use Rattle.shapes.specs.Records.{cell_of, cell_as, shape_in}
+use Rattle.verifier.specs.Swept.{is_due_mark, is_due}
 
 -- ## One place after another
 
-due_first : (m : ShapeMark) (s : Shape) (T : Table) → m ≡ Due → lowest (cell_as m s ∷ T) ≡ 0
+first_mark : (m : ShapeMark) (s : Shape) (T : Table) (n : ℕ) → lowest T ≡ n → lowest (cell_as m s ∷ T) ≡ cond (not (is_due_mark m)) (1 + n) 0
 unfolding lowest
-due_first m s T e = rw e
+first_mark Blank s T n e = omega (arith, e)
+first_mark Start s T n e = omega (arith, e)
+first_mark Due s T n e = refl
+first_mark Shaped s T n e = omega (arith, e)
 
-other_first : (m : ShapeMark) (s : Shape) (T : Table) → (m ≡ Due → ⊥) → lowest (cell_as m s ∷ T) ≡ suc (lowest T)
+lowest_is : (rs : List ShapeRecord) → lowest (map cell_of rs) ≡ position_or_len is_due rs
 unfolding lowest
-other_first Blank s T n = refl
-other_first Start s T n = refl
-other_first Due s T n = absurd (n refl)
-other_first Shaped s T n = refl
+lowest_is [] = refl
+lowest_is (r ∷ rs) = first_mark r.mark (shape_in r) (map cell_of rs) (position_or_len is_due rs) (lowest_is rs)
 
-module _ (rs : List ShapeRecord) (i : ℕ) where
-  pub lowest_here : (d : ShapeRecord) → i < length rs → (get_or rs i d).mark ≡ Due → lowest (map cell_of (drop i rs)) ≡ 0
-  lowest_here d l e = at_drop_more (λ xs. lowest (map cell_of xs)) rs i d l ∙ due_first _ _ _ e
+found : (n m k : ℕ) → Some k ≡ cond (ltb n m) (Some n) None → (k ≡ n) × (k < m)
+found n m k e = go (ltb n m) refl e
+  where
+    go : (b : Bool) → ltb n m ≡ b → Some k ≡ cond b (Some n) None → (k ≡ n) × (k < m)
+    go true l e = let z : k ≡ n = cc in (z, omega (arith, ltb-true n m l, z))
+    go false l e = absurd (cc)
 
-  pub lowest_more : (d : ShapeRecord) → i < length rs → ((get_or rs i d).mark ≡ Due → ⊥) → lowest (map cell_of (drop i rs)) ≡ suc (lowest (map cell_of (drop (i + 1) rs)))
-  lowest_more d l n = at_drop_more (λ xs. lowest (map cell_of xs)) rs i d l ∙ other_first _ _ _ n
+missing : (b : Bool) (n : ℕ) → None ≡ cond b (Some n) None → b ≡ false
+missing true n e = absurd (cc)
+missing false n e = refl
 
-  pub lowest_none : length rs ≤ i → lowest (map cell_of (drop i rs)) ≡ 0
-  unfolding lowest
-  lowest_none l = at_drop_all (λ xs. lowest (map cell_of xs)) rs i l
+at_most_all : (T : Table) → lowest T ≤ length T
+unfolding lowest
+at_most_all [] = omega arith
+at_most_all (off ∷ T) = let h = at_most_all T in omega arith
+at_most_all (blank ∷ T) = let h = at_most_all T in omega arith
+at_most_all (marked s ∷ T) = omega arith
+at_most_all (settled s ∷ T) = let h = at_most_all T in omega arith
+
+pub lowest_within : (rs : List ShapeRecord) → lowest (map cell_of rs) ≤ length rs
+lowest_within rs = omega (arith, at_most_all (map cell_of rs), length-map rs cell_of)
 
 -- nothing is marked below n
 lowest_rest : (T : Table) (n : ℕ) → n ≤ lowest T → n + lowest (drop n T) ≡ lowest T
@@ -45,6 +60,21 @@ lowest_rest (settled s ∷ T) (suc n) h = let ih = lowest_rest T n (omega arith)
 
 pub lowest_from : (rs : List ShapeRecord) (n : ℕ) → n ≤ lowest (map cell_of rs) → n + lowest (map cell_of (drop n rs)) ≡ lowest (map cell_of rs)
 lowest_from rs n h = ap (λ T. n + lowest T) (sym (drop-map cell_of n rs)) ∙ lowest_rest (map cell_of rs) n h
+
+-- the part from n on is searched
+module _ (rs : List ShapeRecord) (n : ℕ) (h : n ≤ lowest (map cell_of rs)) where
+  rest_all : take (length rs - n) (drop n rs) ≡ drop n rs
+  rest_all = take_all (length rs - n) (drop n rs) (omega (arith, length-drop n rs))
+
+  pub lowest_found : (k : ℕ) → Some k ≡ position is_due (take (length rs - n) (drop n rs)) → (n + k ≡ lowest (map cell_of rs)) × (n + k < length rs)
+  lowest_found k e =
+      let d : (k ≡ position_or_len is_due (drop n rs)) × (k < length (drop n rs)) = found _ _ k (e ∙ ap (position is_due) rest_all) in
+      (omega (arith, d.0, lowest_is (drop n rs), lowest_from rs n h), omega (arith, d.1, length-drop n rs))
+
+  pub lowest_missing : None ≡ position is_due (take (length rs - n) (drop n rs)) → length rs ≤ lowest (map cell_of rs)
+  lowest_missing e =
+      let d = missing _ _ (e ∙ ap (position is_due) rest_all) in
+      omega (arith, ltb-false _ _ d, lowest_is (drop n rs), lowest_from rs n h, length-drop n rs)
 
 -- ## After a write
 
@@ -95,3 +125,5 @@ pub low_taken : (T : Table) (p : ℕ) (s : Shape) → p ≡ lowest T → p < len
 low_taken [] p s e h = absurd (omega arith)
 low_taken (c ∷ T) zero s e h = omega (arith, first_unmarked (settled s) T (λ t d. absurd (let z : ◌≡◌ {A = ℕ} 0 1 = cc in omega arith)))
 low_taken (c ∷ T) (suc p) s e h = taken_first c T p s e (λ d. low_taken T p s d (omega arith))
+
+pub ruleset searching = (lowest_within, lowest_found, lowest_missing)

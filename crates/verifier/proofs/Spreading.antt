@@ -111,3 +111,7 @@ next_and qs p n m o q e g d = d ∙ (λ i. Some (p + sym e i) ∷ sym g i ∷ []
 
 pub target_only : (qs : List (Option ℕ)) (o q : Option ℕ) → q ≡ o → qs ≡ o ∷ [] → qs ≡ q ∷ []
 target_only qs o q g d = d ∙ ap (λ q. q ∷ []) (sym g)
+
+pub ruleset spreading = (spread_end, spread_only, spread_fault, spread_both, next_only, next_and, target_only)
+
+pub ruleset going = (put_nowhere, put_past, put_fault, put_fine, neat_set, bound_marked, bound_unmarked)

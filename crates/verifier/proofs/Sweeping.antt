@@ -1,6 +1,6 @@
 -- Sweeping one function after another.
 use Rattle.std.proofs.Common.{◌≡◌, ℕ, zero, suc, ◌+◌, ◌<◌, List, ◌++◌, map, length, IfOk, Ok, Err, Result, sym, refl, ap, ◌∙◌, subst, add-one, arith}
-use lib.ListN.{length-map}
+use Rattle.std.proofs.lemmas.List.{length-map}
 use Rattle.bytecode.specs.declared.refusal.Refusal.{Refusal}
 use Rattle.bytecode.specs.Outcome.{Fault, bad, good, bind, told}
 use Rattle.bytecode.specs.Program.{Program}

@@ -1,7 +1,6 @@
 -- One take, and the sweep from its first take on, over records.
 use Rattle.std.proofs.Common.{◌≡◌, ℕ, zero, suc, ◌+◌, ◌-◌, ◌<◌, ◌≤◌, Bool, true, false, List, [], ◌∷◌, map, length, get_or, set, Some, None, Option, sym, refl, ap, ◌∙◌, subst, inl, add-one, arith}
-use lib.ListN.{length-map}
-use Rattle.std.proofs.lemmas.List.{map-set, get_or-set_same}
+use Rattle.std.proofs.lemmas.List.{length-map, map-set, get_or-set_same}
 use Rattle.bytecode.specs.declared.instruction.Instruction.{Instruction}
 use Rattle.bytecode.specs.Instructions.{decode_at, starts_of}
 use Rattle.bytecode.specs.Outcome.{Fault, Out, bad, good, bind}
@@ -53,6 +52,10 @@ module _ (P : Program) (f : ℕ) (rs : List ShapeRecord) (p : ℕ) where
 
 pub settled_shape : (rs : List ShapeRecord) (p : ℕ) → p < length rs → shape_in (get_or (set rs p (settled_record (get_or rs p no_record))) p no_record) ≡ shape_in (get_or rs p no_record)
 settled_shape rs p l = ap shape_in (get_or-set_same rs p (settled_record (get_or rs p no_record)) no_record l)
+
+pub settled_tidy : (rs : List ShapeRecord) (p : ℕ) → p < length rs → Tidy (get_or rs p no_record) → Tidy (get_or (set rs p (settled_record (get_or rs p no_record))) p no_record)
+settled_tidy rs p l t =
+    subst Tidy (sym (get_or-set_same rs p (settled_record (get_or rs p no_record)) no_record l)) (tidy_mark Shaped (get_or rs p no_record) t)
 
 pub whole_settled : (r : ShapeRecord) → Tidy r → Whole (settled_record r)
 whole_settled r t = record { tidy = tidy_mark Shaped r t; vacant = inl tt }
@@ -119,13 +122,13 @@ module _ (P : Program) (f : ℕ) (rs : List ShapeRecord) (p : ℕ) (e : p ≡ lo
         (rw (a, b))
 
     -- a take leaves less
-    pub take_less : WellFormed P → (us : List ShapeRecord) → SizedAll (variables_at P f) (map cell_of rs)
+    pub take_less : (us : List ShapeRecord) → SizedAll (variables_at P f) (map cell_of rs)
         → visit P f (map cell_of rs) p (shape_in (get_or rs p no_record)) ≡ good (map cell_of us)
         → SizedAll (variables_at P f) (map cell_of us) × (total (variables_at P f) (map cell_of us) < total (variables_at P f) (map cell_of rs))
-    take_less formed us z v =
+    take_less us z v =
         on_good (Unit {0}) (λ U. SizedAll (variables_at P f) U × (total (variables_at P f) U < total (variables_at P f) (map cell_of rs)))
         (visit P f (map cell_of rs) p (shape_in (get_or rs p no_record))) (map cell_of us) v
-        (visit_lighter P formed f [] (map cell_of rs) p (shape_in (get_or rs p no_record)) (lowest_due rs p e h) z)
+        (visit_lighter P f [] (map cell_of rs) p (shape_in (get_or rs p no_record)) (lowest_due rs p e h) z)
 
 -- ## The table before the first take
 
@@ -184,3 +187,5 @@ module _ (P : Program) (f : ℕ) (rs : List ShapeRecord) (e : rs ≡ map fresh_r
         let k = put_steps V f 0 (map fresh (starts_at P f)) (Some 0) (entry_of (function_at P f)) z (entry_sized (function_at P f) (formed_at P formed f)) in
         let j = on_good (Unit {0}) _ _ U (met (good U) h) k in
         (λ q. (j.0.moves q).sized (z q), omega (arith, j.0.lighter, total_fresh V (starts_at P f)))
+
+pub ruleset visiting = (visit_undecoded, visit_refused, visit_spread, whole_settled, low_settled, settled_shape, settled_tidy)

@@ -9,7 +9,7 @@ use Rattle.plan.specs.Plans.{Plan, Fullest}
 use Rattle.plan.specs.Sweep.{Cell, shape_of, Table, judge}
 use Rattle.plan.specs.Judgement.{AllPlanned, most_takes, Refused, bytes_from}
 use Rattle.reader.specs.Layout.{package_at}
-use Rattle.reader.specs.View.{program_of, code_size, Fitting}
+use Rattle.reader.specs.View.{program_of, code_size}
 use Rattle.shapes.specs.declared.table.ShapeRecord.{ShapeRecord}
 use Rattle.shapes.specs.Records.{record_of, blank_record, no_record}
 use Rattle.verifier.specs.declared.program.Program.{Program}
@@ -61,7 +61,6 @@ tables_in (good v) = v.tables
 -- ## What is known of an accepted program
 
 pub record Checked (p : Program) : Type 0 where
-  pub fitting : Fitting p.contents
   pub tables : List Table
   pub takes : ℕ
   pub judged : judge (meaning_of p) ≡ good (tables, takes)

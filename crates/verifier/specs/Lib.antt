@@ -3,3 +3,4 @@ pub mod Acting
 pub mod Fresh
 pub mod Swept
 pub mod Checking
+pub mod Bodies

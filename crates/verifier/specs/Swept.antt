@@ -1,5 +1,5 @@
 -- The table after the sweep, before and after its starts without a shape are made blank.
-use Rattle.std.specs.Prelude.{ℕ, zero, suc, List, [], ◌∷◌, ◌++◌, map, length}
+use Rattle.std.specs.Prelude.{ℕ, zero, suc, Bool, true, false, List, [], ◌∷◌, ◌++◌, map, length}
 use Rattle.bytecode.specs.Outcome.{bad, good}
 use Rattle.bytecode.specs.Program.{Program}
 use Rattle.plan.specs.Sweep.{Table, Answer, sweep_function}
@@ -32,6 +32,16 @@ working_records (T ∷ Ts) = map working_record T ++ working_records Ts
 
 abbrev pub working_all : ℕ → List Table → List ShapeRecord
 working_all room Ts = filled room (working_records Ts)
+
+-- a record that is marked to be taken
+abbrev pub is_due_mark : ShapeMark → Bool
+is_due_mark Blank = false
+is_due_mark Start = false
+is_due_mark Due = true
+is_due_mark Shaped = false
+
+abbrev pub is_due : ShapeRecord → Bool
+is_due r = is_due_mark r.mark
 
 -- a start without a shape becomes blank
 abbrev pub finished_mark : ShapeMark → ShapeMark

@@ -6,6 +6,7 @@ ghost use Rattle.verifier.specs.Flows.{followers};
 
 use bytecode::instruction::Instruction;
 
+// What the sweep asks of an instruction: four cases stand for them all.
 /// To the next place, there and to a branch's target, to a target alone, or nowhere. Targets are offsets from the instruction's own place.
 #[derive(Clone, Copy)]
 pub(crate) enum Flow {

@@ -16,7 +16,7 @@ use reader::package::Package;
 use reader::read_package;
 use shapes::table::{ShapeMark, ShapeRecord, blank_record};
 
-/// A program that `check` has accepted. Nothing else makes one.
+/// A program that `check` has accepted. Nothing else makes one. What the check found of it is no invariant of the type: `start` asks for it.
 #[derive(Clone, Copy)]
 pub struct Program<'a> {
     contents: Package<'a>,
@@ -38,13 +38,12 @@ impl<'a> Program<'a> {
     }
 
     pub fn function_count(&self) -> usize
-        requires { Checked self.now }
         ensures { result ≡ length (program_of self.now.contents).functions }
     {
-        self.contents.function_count
+        self.contents.function_count()
     }
 
-    /// Where everything lies in its bytes.
+    /// What its package holds.
     pub fn contents(&self) -> &Package<'a>
         ensures { result.now ≡ self.now.contents }
     {
@@ -53,17 +52,19 @@ impl<'a> Program<'a> {
 }
 
 // Makes the starts without a shape blank.
+#[tactic(auto, using(crate::proofs::Finishing::finishing))]
 fn drop_starts(table: &mut [ShapeRecord])
     ensures { table.new ≡ map finished table.old }
 {
-    for i in 0..table.len() {
-        if let ShapeMark::Start = table[i].mark {
-            table[i].mark = ShapeMark::Blank;
+    for record in table.iter_mut() {
+        if let ShapeMark::Start = record.mark {
+            record.mark = ShapeMark::Blank;
         }
     }
 }
 
 // Reads, decodes and sweeps, in a blank table.
+#[tactic(auto, using(crate::proofs::Judging::steps, crate::proofs::Forming::well_formed, crate::proofs::Judging::formed_only))]
 fn judge<'a>(bytes: &'a [u8], table: &mut [ShapeRecord]) -> Result<Accepted<'a>, Refusal>
     requires blank { table.old ≡ replicate (length table.old) blank_record }
     ensures met { answered (check_of bytes.now (length table.old)) ≡ told answer_of result }
@@ -86,6 +87,7 @@ fn judge<'a>(bytes: &'a [u8], table: &mut [ShapeRecord]) -> Result<Accepted<'a>,
 
 /// Checks a package. If it is accepted, the table holds the fullest plan of each of its functions, one record for each byte of code;
 /// records without a shape, and all after a refusal, are blank.
+#[tactic(auto, using(crate::proofs::Judging::deciding))]
 pub fn check<'a>(bytes: &'a [u8], table: &mut [ShapeRecord]) -> Result<Accepted<'a>, Refusal>
     ensures met { answered (check_of bytes.now (length table.old)) ≡ told answer_of result }
     ensures memory { table.new ≡ table_after (length table.old) (check_of bytes.now (length table.old)) }

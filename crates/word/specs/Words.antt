@@ -1,5 +1,5 @@
 -- Arithmetic and comparisons of words. A word is its 32 bits, a number below 2^32; its value is a signed whole number.
-use Rattle.std.specs.Prelude.{ℕ, ◌-◌, ◌*◌, ◌%◌, ◌^◌, Bool, true, false, cond, ℤ, pos, negsuc, ◌+ℤ◌, ◌-ℤ◌, ◌*ℤ◌, Ok, Err, Result, ◌==◌, bit_and, bit_or, bit_xor, int_div, int_le, int_lt, int_rem}
+use Rattle.std.specs.Prelude.{ℕ, ◌-◌, ◌*◌, ◌%◌, ◌^◌, Bool, ◌&&◌, ◌||◌, cond, ℤ, pos, negsuc, ◌+ℤ◌, ◌-ℤ◌, ◌*ℤ◌, Ok, Err, Result, ◌==◌, bit_and, bit_or, bit_xor, int_div, int_le, int_lt, int_rem}
 use Rattle.std.specs.Int.Signed.{shr_z}
 use Rattle.std.proofs.Common.{to_z}
 use Rattle.std.specs.Int.{w32}
@@ -22,7 +22,7 @@ wrap (negsuc n) = (2 ^ 32 - 1) - n % 2 ^ 32
 
 -- no quotient: the divisor is 0, or the least word (−2^31) is divided by −1
 abbrev pub undivided : ℕ → ℕ → Bool
-undivided x y = cond (y == 0) true (cond (x == 2 ^ 31) (y == 2 ^ 32 - 1) false)
+undivided x y = y == 0 || (x == 2 ^ 31 && y == 2 ^ 32 - 1)
 
 -- x is the word that was pushed first, y the one on top. int_div drops the fraction, int_rem has the sign of the dividend, and
 -- shr_z rounds down, so that it keeps the sign. A shift uses the low five bits of its count; a left shift drops bits above the word.

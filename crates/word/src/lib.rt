@@ -1,72 +1,31 @@
 // Guest arithmetic and comparisons, on the bits of 32-bit words.
 #![tactic(auto)]
 
-ghost use Rattle.std.specs.Prelude.{◌≡◌, ◌<◌, ℤ, int_div, int_rem};
+ghost use Rattle.std.specs.Prelude.{◌≡◌, ℤ};
 ghost use Rattle.word.specs.Samples.{Samples, Modulus, answers};
-ghost use Rattle.word.specs.Words.{compute as computed, holds as compared, attempted, undivided as stopping, value_of, wrap};
+ghost use Rattle.word.specs.Words.{compute as computed, holds as compared, attempted, wrap};
 
 use bytecode::instruction::{Operation, Order};
 use bytecode::stop::Stop;
 
-// Whether a division stops: the divisor is 0, or the least word is divided by −1.
-fn undivided(x: u32, y: u32) -> bool
-    ensures { result ≡ stopping x y }
-{
-    if y == 0 {
-        return true;
-    }
-    if x == 0x8000_0000 {
-        y == 0xFFFF_FFFF
-    } else {
-        false
-    }
-}
-
-// The quotient, its fraction dropped.
-fn quotient(x: u32, y: u32) -> u32
-    requires { 0 < y }
-    ensures { result ≡ wrap (int_div (value_of x) (value_of y)) }
-{
-    x.cast_signed()
-        .wrapping_div(y.cast_signed())
-        .cast_unsigned()
-}
-
-// The remainder, with the sign of the dividend.
-fn remainder(x: u32, y: u32) -> u32
-    requires { 0 < y }
-    ensures { result ≡ wrap (int_rem (value_of x) (value_of y)) }
-{
-    x.cast_signed()
-        .wrapping_rem(y.cast_signed())
-        .cast_unsigned()
-}
-
 /// What an operation makes of two words, of which `y` was on top; division may stop.
+#[tactic(auto, using(crate::proofs::Wrapping::mul_wrap))]
 pub fn compute(op: Operation, x: u32, y: u32) -> Result<u32, Stop>
     ensures { attempted result ≡ computed op x y }
 {
+    let a = x.cast_signed();
+    let b = y.cast_signed();
     match op {
         Operation::Add => Ok(x.wrapping_add(y)),
         Operation::Sub => Ok(x.wrapping_sub(y)),
         Operation::Mul => Ok(x.wrapping_mul(y)),
-        Operation::Div => {
-            if undivided(x, y) {
-                return Err(Stop::Divide);
-            }
-            Ok(quotient(x, y))
-        }
-        Operation::Rem => {
-            if undivided(x, y) {
-                return Err(Stop::Divide);
-            }
-            Ok(remainder(x, y))
-        }
+        Operation::Div => a.checked_div(b).map(i32::cast_unsigned).ok_or(Stop::Divide),
+        Operation::Rem => a.checked_rem(b).map(i32::cast_unsigned).ok_or(Stop::Divide),
         Operation::And => Ok(x & y),
         Operation::Or => Ok(x | y),
         Operation::Xor => Ok(x ^ y),
         Operation::Shl => Ok(x.wrapping_shl(y)),
-        Operation::Shr => Ok(x.cast_signed().wrapping_shr(y).cast_unsigned()),
+        Operation::Shr => Ok(a.wrapping_shr(y).cast_unsigned()),
     }
 }
 

@@ -1,13 +1,13 @@
-use Rattle.ready.proofs.Seeing.{frames_inside}
-use Rattle.machine.specs.View.{program_in, state_of}
+use Rattle.std.proofs.Common.{ap, ◌∙◌}
+use Rattle.machine.specs.View.{saw, fault_in, no_frame_fault}
+use Rattle.machine.proofs.Looking.{same_machine, saw_looked, fault_looked}
 use Rattle.machine.proofs.Machine.look.Goals as goal
 
-pub frame-requires : goal.frame-requires
-frame-requires c =
+pub returns-in-Live : goal.returns-in-Live
+returns-in-Live c =
     let m = c.args.self.now in
-    record { fitting = c.requires.fitting; framed = frames_inside (program_in m) (state_of m) c.requires.ready }
-
-pub frame-requires-in-Stopped : goal.frame-requires-in-Stopped
-frame-requires-in-Stopped c =
-    let m = c.args.self.now in
-    record { fitting = c.requires.fitting; framed = frames_inside (program_in m) (state_of m) c.requires.ready }
+    record {
+      answer = λ n. ap saw c.ok_or.ensures.value ∙ saw_looked m c.args.frame n c.frame.result _ c.in-Live.is c.frame.ensures.value;
+      refused = λ n. ap (fault_in no_frame_fault) c.ok_or.ensures.value ∙ fault_looked m c.args.frame n c.frame.result _ c.in-Live.is c.frame.ensures.value;
+      same = same_machine m _ _ c.frame.ensures.same;
+    }

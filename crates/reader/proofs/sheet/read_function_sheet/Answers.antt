@@ -1,81 +1,51 @@
-use Rattle.std.proofs.Common.{◌≡◌, ℕ, ◌<◌, ◌≤◌, eqb, List, map, length, get_or, take, sym, refl, ap, ◌∙◌, subst, arith, length-set, eq-eqb}
-use Rattle.std.specs.List.{AllByRecursion}
+use Rattle.std.proofs.Common.{◌≡◌, ◌<◌, ◌∙◌, length, map, get_or, ap, refl, arith, eqb, eq-eqb}
 use Rattle.std.proofs.lemmas.Result.{err_from_is_err_and}
-use Rattle.bytecode.specs.Outcome.{Out}
-use Rattle.bytecode.specs.Program.{Signature}
-use Rattle.bytecode.specs.declared.kind.Kind.TheVariants.{Word}
-use Rattle.reader.specs.Fields.{byte}
-use Rattle.reader.specs.Layout.{Read, record_at, function_arguments, kind_of}
-use Rattle.reader.specs.View.{function_entry_of, function_signature_of, no_function_record, FunctionFits, FunctionBehind, FunctionLettered}
-use Rattle.reader.specs.declared.package.Function.{Function}
+use Rattle.std.proofs.lemmas.List.{take_all}
+use Rattle.reader.specs.Layout.{record_at, function_arguments}
+use Rattle.reader.specs.Entries.{FunctionFits, signature_of, function_entry, function_entry_of, FunctionLettered}
 use Rattle.reader.proofs.Repeating.{series_more, series_fault, series_end}
-use Rattle.reader.proofs.Turns.{filled_more, filled_all, count_at, kept_map, kept_all, all_at, first_set}
+use Rattle.reader.proofs.Turns.{no_function, read_same, filled_more, filled_all, filled_first, count_kept, kept_map, kept_at}
 use Rattle.reader.proofs.sheet.read_function_sheet.Goals as goal
-
-abbrev step : List ℕ → ℕ → List Function → ℕ → Read (List Signature) → Out (Read Signature)
-step bs n fs i s = record_at bs 1 (eqb i 0) (get_or (map function_arguments (map (function_entry_of bs) (take n fs))) i 0) s.after
-
--- the definition asks for as many letters as the code does
-asked : (bs : List ℕ) (fs gs : List Function) (n i p : ℕ) → length gs ≡ 64 → n ≤ 64 → i < n → map (function_entry_of bs) (take n gs) ≡ map (function_entry_of bs) (take n fs) →
-    (o : Out (Read Signature)) → record_at bs 1 (eqb i 0) (get_or gs i no_function_record).arguments p ≡ o → record_at bs 1 (eqb i 0) (get_or (map function_arguments (map (function_entry_of bs) (take n fs))) i 0) p ≡ o
-asked bs fs gs n i p e k l h o =
-    subst (λ a. record_at bs 1 (eqb i 0) a p ≡ o) (sym (count_at (function_entry_of bs) function_arguments gs (map (function_entry_of bs) (take n fs)) n i no_function_record (omega arith) l h))
 
 pub read_record-requires : goal.read_record-requires
 read_record-requires c =
-    let f = all_at (FunctionFits c.args.bytes.now) c.loop-i.list c.args.count c.loop-i.i no_function_record (omega (arith, c.loop-i.invariant.6)) c.loop-i-test.true c.loop-i.invariant.3 in
-    record { inside = c.loop-i.invariant.1; few = omega (arith, f.narrow, f.ordered) }
+    let l : c.loop-index.index < length c.loop-index.functions = omega arith in
+    let f = kept_at function_entry FunctionFits c.loop-index.functions c.args.functions.now c.loop-index.index no_function l c.loop-index.invariant.kept c.requires in
+    omega (arith, f.narrow, f.ordered)
 
-pub returns-in_err-kinds : goal.returns-in_err-kinds
-returns-in_err-kinds c =
+pub returns-in_err-function-clause-met : goal.returns-in_err-function-clause-met
+returns-in_err-function-clause-met c =
+    let bs = c.args.cursor.now.bytes.now in
+    let counts = map function_arguments (map function_entry_of (map function_entry c.args.functions.now)) in
+    let l : c.loop-index.index < length c.loop-index.functions = omega arith in
     let p = err_from_is_err_and c.from_residual.result c.from_residual.ensures.1 in
     rw (p.1, p.2)
-    (record {
-      met =
-          c.loop-i.invariant.0 ∙
-          series_fault (step c.args.bytes.now c.args.count c.args.list.now) c.args.count c.loop-i.i _ _ _ c.loop-i-test.true
-          (asked c.args.bytes.now c.args.list.now c.loop-i.list c.args.count c.loop-i.i c.loop-i.after c.loop-i.invariant.6 c.requires.few c.loop-i-test.true c.loop-i.invariant.2 _ c.in_err-kinds.ensures.met);
-      room = tt;
-      kept = c.loop-i.invariant.2;
-      fit = c.loop-i.invariant.3;
-      behind = c.loop-i.invariant.7;
-      lettered = tt;
-      gives = tt;
-    })
+    (c.loop-index.invariant.met ∙
+    series_fault (λ i s. record_at bs 1 (eqb i 0) (get_or counts i 0) s.after) (length c.args.functions.now) c.loop-index.index _ _ _ (omega arith)
+    (ap (λ n. record_at bs 1 (eqb c.loop-index.index 0) n c.loop-index.cursor.offset) (count_kept function_entry function_entry_of function_arguments c.loop-index.functions c.args.functions.now c.loop-index.index no_function l c.loop-index.invariant.kept) ∙
+    read_same (λ bs. record_at bs 1 (eqb c.loop-index.index 0) (get_or c.loop-index.functions c.loop-index.index no_function).entry.arguments c.loop-index.cursor.offset) bs _ _ c.loop-index.invariant.lent c.in_err-function.ensures.met))
 
-pub loop-i-preserved : goal.loop-i-preserved
-loop-i-preserved c =
-    let k : c.loop-i.i < length c.loop-i.list = omega (arith, c.loop-i.invariant.6) in
-    let f = all_at (FunctionFits c.args.bytes.now) c.loop-i.list c.args.count c.loop-i.i no_function_record (omega (arith, c.loop-i.invariant.6)) c.loop-i-test.true c.loop-i.invariant.3 in (
-      c.loop-i.invariant.0 ∙
-          series_more (step c.args.bytes.now c.args.count c.args.list.now) c.args.count c.loop-i.i _ _ _ _ _ c.loop-i-test.true
-          (filled_more (function_signature_of c.args.bytes.now) c.loop-i.list c.loop-i.i _ k)
-          (asked c.args.bytes.now c.args.list.now c.loop-i.list c.args.count c.loop-i.i c.loop-i.after c.loop-i.invariant.6 c.requires.few c.loop-i-test.true c.loop-i.invariant.2 _ c.in_ok-kinds.ensures.met),
-      c.in_ok-kinds.ensures.room,
-      kept_map (function_entry_of c.args.bytes.now) c.loop-i.list _ c.args.count c.loop-i.i _ no_function_record c.loop-i-test.true refl c.loop-i.invariant.2,
-      kept_all (FunctionFits c.args.bytes.now) c.loop-i.list c.args.count c.loop-i.i _ c.loop-i-test.true
-          (record { some = f.some; few = f.few; inside = f.inside; narrow = f.narrow; ordered = f.ordered }) c.loop-i.invariant.3,
-      filled_all (FunctionLettered c.args.bytes.now) c.loop-i.list c.loop-i.i _ k c.loop-i.invariant.4 c.in_ok-kinds.ensures.room,
-      (λ _. first_set (λ f. kind_of (byte c.args.bytes.now f.kinds) ≡ Word) c.loop-i.list c.loop-i.i _ no_function_record k c.loop-i.invariant.5
-          (λ z. c.in_ok-kinds.ensures.gives (eq-eqb c.loop-i.i 0 z))),
-      simp length-set c.loop-i.invariant.6,
-      kept_all (FunctionBehind c.args.bytes.now) c.loop-i.list c.args.count c.loop-i.i _ c.loop-i-test.true
-          (all_at (FunctionBehind c.args.bytes.now) c.loop-i.list c.args.count c.loop-i.i no_function_record (omega (arith, c.loop-i.invariant.6)) c.loop-i-test.true c.loop-i.invariant.7)
-          c.loop-i.invariant.7,
-    )
-
-pub returns : goal.returns
-returns c =
-    let e : c.loop-i.i ≡ c.args.count = omega arith in
+pub loop-index-preserved : goal.loop-index-preserved
+loop-index-preserved c =
+    let bs = c.args.cursor.now.bytes.now in
+    let counts = map function_arguments (map function_entry_of (map function_entry c.args.functions.now)) in
+    let l : c.loop-index.index < length c.loop-index.functions = omega arith in
     record {
       met =
-          c.loop-i.invariant.0 ∙
-          series_end (step c.args.bytes.now c.args.count c.args.list.now) c.args.count c.loop-i.i _ _ _ c.loop-i-test.false
-          (ap (λ n. map (function_signature_of c.args.bytes.now) (take n c.loop-i.list)) e);
-      room = c.loop-i.invariant.1;
-      kept = c.loop-i.invariant.2;
-      fit = c.loop-i.invariant.3;
-      behind = c.loop-i.invariant.7;
-      lettered = subst (λ n. AllByRecursion (FunctionLettered c.args.bytes.now) (take n c.loop-i.list)) e c.loop-i.invariant.4;
-      gives = λ z. c.loop-i.invariant.5 (omega arith);
+          c.loop-index.invariant.met ∙
+          series_more (λ i s. record_at bs 1 (eqb i 0) (get_or counts i 0) s.after) (length c.args.functions.now) c.loop-index.index _ _ _ _ _ (omega arith)
+          (filled_more (λ f. signature_of f.signature) c.loop-index.functions c.loop-index.index _ l)
+          (ap (λ n. record_at bs 1 (eqb c.loop-index.index 0) n c.loop-index.cursor.offset) (count_kept function_entry function_entry_of function_arguments c.loop-index.functions c.args.functions.now c.loop-index.index no_function l c.loop-index.invariant.kept) ∙
+          read_same (λ bs. record_at bs 1 (eqb c.loop-index.index 0) (get_or c.loop-index.functions c.loop-index.index no_function).entry.arguments c.loop-index.cursor.offset) bs _ _ c.loop-index.invariant.lent c.in_ok-function.ensures.met);
+      lent = c.in_ok-function.ensures.lent ∙ c.loop-index.invariant.lent;
+      kept = kept_map function_entry c.loop-index.functions c.args.functions.now c.loop-index.index _ _ refl c.loop-index.invariant.kept;
+      lettered = filled_all FunctionLettered c.loop-index.functions c.loop-index.index _ l c.loop-index.invariant.lettered c.in_ok-function.ensures.lettered;
+      gives = filled_first (λ f. f.signature.result_letter ≡ 0x77) c.loop-index.functions c.loop-index.index _ l c.loop-index.invariant.gives (λ z. c.in_ok-function.ensures.gives (eq-eqb c.loop-index.index 0 z));
     }
+
+pub returns-clause-met : goal.returns-clause-met
+returns-clause-met c =
+    let counts = map function_arguments (map function_entry_of (map function_entry c.args.functions.now)) in
+    c.loop-index.invariant.met ∙
+    series_end (λ i s. record_at c.args.cursor.now.bytes.now 1 (eqb i 0) (get_or counts i 0) s.after) (length c.args.functions.now) c.loop-index.index _ _ _ (omega arith)
+    (ap (map (λ f. signature_of f.signature)) (take_all c.loop-index.index c.loop-index.functions (omega arith)))

@@ -1,17 +1,16 @@
-use Rattle.std.proofs.Common.{◌≡◌, ◌≤◌, false, map, length, get_or, take}
+use Rattle.std.proofs.Common.{◌≡◌, false, map, length, get_or, take}
 use Rattle.std.specs.List.{AllByRecursion}
 use Rattle.reader.specs.Layout.{record_at, native_sheet_at, native_arguments}
-use Rattle.reader.specs.View.{native_entry_of, native_signature_of, NativeFits, NativeLettered}
+use Rattle.reader.specs.Entries.{signature_of, native_entry, native_entry_of, NativeLettered}
 use Rattle.reader.proofs.Repeating.{onwards}
 use Rattle.reader.proofs.sheet.read_native_sheet.Given as goal
 
-abbrev pub invariant-loop-i : goal.invariant-loop-i
-invariant-loop-i l =
-    (native_sheet_at l.bytes l.count (map native_arguments (map native_entry_of (take l.count l.initial.list))) l.offset ≡
-    onwards (λ i s. record_at l.bytes 2 false (get_or (map native_arguments (map native_entry_of (take l.count l.initial.list))) i 0) s.after)
-    l.count l.i (map (native_signature_of l.bytes) (take l.i l.list)) l.after) ×
-    (l.after ≤ length l.bytes) ×
-    (map native_entry_of (take l.count l.list) ≡ map native_entry_of (take l.count l.initial.list)) ×
-    AllByRecursion NativeFits (take l.count l.list) ×
-    AllByRecursion (NativeLettered l.bytes) (take l.i l.list) ×
-    (length l.list ≡ 32)
+abbrev pub invariant-loop-native : goal.invariant-loop-native
+invariant-loop-native l = record {
+  met : native_sheet_at l.initial.cursor.bytes.now (length l.initial.natives) (map native_arguments (map native_entry_of (map native_entry l.initial.natives))) l.initial.cursor.offset ≡
+      onwards (λ i s. record_at l.initial.cursor.bytes.now 2 false (get_or (map native_arguments (map native_entry_of (map native_entry l.initial.natives))) i 0) s.after)
+      (length l.initial.natives) l.native-index (map (λ f. signature_of f.signature) (take l.native-index l.natives)) l.cursor.offset;
+  lent : l.cursor.bytes.now ≡ l.initial.cursor.bytes.now;
+  kept : map native_entry l.natives ≡ map native_entry l.initial.natives;
+  lettered : AllByRecursion NativeLettered (take l.native-index l.natives);
+}

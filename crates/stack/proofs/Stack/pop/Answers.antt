@@ -1,15 +1,10 @@
-use Rattle.std.proofs.Common.{◌-◌, ◌<◌, refl, arith}
-use Rattle.stack.proofs.Holding.{popped, popped_off}
+use Rattle.std.proofs.Common.{◌<◌, reverse, take, ◌∙◌, ap₂, arith}
+use Rattle.stack.proofs.Holding.{popped_off}
 use Rattle.stack.proofs.Stack.pop.Goals as goal
 
-pub returns : goal.returns
-returns g c =
+pub returns-clause-held : goal.returns-clause-held
+returns-clause-held g c =
     let s = c.args.self.now in
     let some : 0 < s.len = omega arith in
-    let d = c.index-self-self.result in
-    record {
-      value = popped s.room.now s.len d some c.requires.sound;
-      entries = refl {a = s.room.now};
-      len = refl {a = s.len - 1};
-      held = popped_off s.room.now s.len d some c.requires.sound;
-    }
+    ap₂ (λ n xs. reverse (take n xs)) c.pop_within.ensures.len c.pop_within.ensures.entries
+    ∙ popped_off s.room.now s.len c.pop_within.result some s.within

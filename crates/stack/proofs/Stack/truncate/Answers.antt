@@ -1,9 +1,8 @@
-use Rattle.std.proofs.Common.{◌≤◌, refl, arith}
+use Rattle.std.proofs.Common.{reverse, take, ap, ◌∙◌}
 use Rattle.stack.proofs.Holding.{cut_off}
 use Rattle.stack.proofs.Stack.truncate.Goals as goal
 
-pub returns-then-n-self : goal.returns-then-n-self
-returns-then-n-self g c =
+pub returns-clause-held : goal.returns-clause-held
+returns-clause-held g c =
     let s = c.args.self.now in
-    let le : c.args.n ≤ s.len = omega arith in
-    record { entries = refl {a = s.room.now}; len = omega arith; held = cut_off s.room.now s.len c.args.n le c.requires.sound }
+    ap (λ n. reverse (take n s.room.now)) c.min-self.ensures ∙ cut_off s.room.now s.len c.args.n s.within

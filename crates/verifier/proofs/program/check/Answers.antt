@@ -1,28 +1,15 @@
-use Rattle.std.proofs.Common.{length, Ok, Err, sym}
+use Rattle.std.proofs.Common.{length, Ok, Err}
 use Rattle.verifier.proofs.Judging.{decided, same_room, accepted_table, refused_table, blank_filled}
 use Rattle.verifier.proofs.program.check.Goals as goal
 
-pub judge-requires : goal.judge-requires
-judge-requires c =
-    record { blank = blank_filled _ _ _ _ (c.fill.ensures.after (λ y h. h)) c.blank_record.ensures (sym c.fill.ensures.len) }
-
-pub returns-in-Ok : goal.returns-in-Ok
-returns-in-Ok c =
+pub returns-in-Ok-clause-decides : goal.returns-in-Ok-clause-decides
+returns-in-Ok-clause-decides c =
     let bytes = c.args.bytes.now in
     let m = length c.fill.new.self in
     let room = length c.args.table.now in
     let formed = c.in-Ok.ensures.formed in
-    let met = same_room bytes m room c.fill.ensures.len formed (Ok c.in-Ok.accepted) c.in-Ok.ensures.met in
-    let memory =
-    accepted_table bytes m room c.fill.ensures.len formed c.in-Ok.accepted c.judge.new.table c.drop_starts.new.table c.in-Ok.ensures.met c.in-Ok.ensures.memory
-    c.drop_starts.ensures in
-    record {
-      met = met;
-      memory = memory;
-      lent = c.in-Ok.ensures.lent;
-      checked = c.in-Ok.ensures.checked;
-      decides = decided bytes room (Ok c.in-Ok.accepted) c.drop_starts.new.table formed met memory;
-    }
+    decided bytes room (Ok c.in-Ok.accepted) c.drop_starts.new.table formed (same_room bytes m room c.fill.ensures.len formed (Ok c.in-Ok.accepted) c.in-Ok.ensures.met)
+    (accepted_table bytes m room c.fill.ensures.len formed c.in-Ok.accepted c.judge.new.table c.drop_starts.new.table c.in-Ok.ensures.met c.in-Ok.ensures.memory c.drop_starts.ensures)
 
 pub returns-in-Err : goal.returns-in-Err
 returns-in-Err c =

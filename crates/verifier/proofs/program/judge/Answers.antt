@@ -2,71 +2,36 @@ use Rattle.std.proofs.Common.{length, sym, ap, ◌∙◌, arith}
 use Rattle.std.proofs.lemmas.Result.{err_from_is_err_and}
 use Rattle.bytecode.specs.Program.{Program}
 use Rattle.reader.specs.View.{program_of}
+use Rattle.reader.proofs.Fits.{fitting_of}
 use Rattle.verifier.specs.Fresh.{all_starts}
 use Rattle.verifier.specs.Swept.{all_tables, working_all}
 use Rattle.verifier.specs.Checking.{answered, tables_in}
 use Rattle.verifier.proofs.Forming.{well_formed}
-use Rattle.verifier.proofs.Judging.{check_unread, check_small, check_undecoded, check_unswept, check_accepted, judge_is, formed_only, unread_formed}
+use Rattle.verifier.proofs.Judging.{check_small, check_undecoded, check_unswept, check_accepted, judge_is, formed_only}
 use Rattle.verifier.proofs.program.judge.Goals as goal
 
-pub returns-in_err-package : goal.returns-in_err-package
-returns-in_err-package c =
-    let p = err_from_is_err_and c.from_residual.result c.from_residual.ensures.1 in
-    rw (p.1, p.2)
-    (record {
-      met = ap answered (check_unread c.args.bytes.now (length c.args.table.now) _ c.in_err-package.ensures.met);
-      memory = tt;
-      lent = tt;
-      checked = tt;
-      formed = unread_formed _ _ c.in_err-package.ensures.met;
-    })
+pub returns-then-table-package-clause-met : goal.returns-then-table-package-clause-met
+returns-then-table-package-clause-met c =
+    ap answered
+    (check_small c.args.bytes.now (length c.args.table.now) (program_of c.in_ok-package.package) c.in_ok-package.ensures.met
+    (omega (arith, (fitting_of c.in_ok-package.package).code_sum, c.if-table-package.true)))
 
-pub returns-then-table-package : goal.returns-then-table-package
-returns-then-table-package c =
-    let k = c.in_ok-package.package in
-    record {
-      met =
-          ap answered
-          (check_small c.args.bytes.now (length c.args.table.now) (program_of k) c.in_ok-package.ensures.met
-          (omega (arith, c.in_ok-package.ensures.fitting.code_sum, c.if-table-package.true)));
-      memory = tt;
-      lent = tt;
-      checked = tt;
-      formed = formed_only _ (program_of k) c.in_ok-package.ensures.met (well_formed k c.in_ok-package.ensures.fitting);
-    }
-
-pub returns-in_err-mark_all : goal.returns-in_err-mark_all
-returns-in_err-mark_all c =
-    let k = c.in_ok-package.package in
+pub returns-in_err-mark_all-clause-met : goal.returns-in_err-mark_all-clause-met
+returns-in_err-mark_all-clause-met c =
     let p = err_from_is_err_and c.from_residual-in_err-mark_all.result c.from_residual-in_err-mark_all.ensures.1 in
     rw (p.1, p.2)
-    (record {
-      met =
-          ap answered
-          (check_undecoded c.args.bytes.now (length c.args.table.now) (program_of k) c.in_ok-package.ensures.met
-          (omega (arith, c.in_ok-package.ensures.fitting.code_sum, c.if-table-package.false)) _ c.in_err-mark_all.ensures.met);
-      memory = tt;
-      lent = tt;
-      checked = tt;
-      formed = formed_only _ (program_of k) c.in_ok-package.ensures.met (well_formed k c.in_ok-package.ensures.fitting);
-    })
+    (ap answered
+    (check_undecoded c.args.bytes.now (length c.args.table.now) (program_of c.in_ok-package.package) c.in_ok-package.ensures.met
+    (omega (arith, (fitting_of c.in_ok-package.package).code_sum, c.if-table-package.false)) _ c.in_err-mark_all.ensures.met))
 
-pub returns-in_err-takes : goal.returns-in_err-takes
-returns-in_err-takes c =
+pub returns-in_err-takes-clause-met : goal.returns-in_err-takes-clause-met
+returns-in_err-takes-clause-met c =
     let k = c.in_ok-package.package in
     let p = err_from_is_err_and c.from_residual-in_err-takes.result c.from_residual-in_err-takes.ensures.1 in
     rw (p.1, p.2)
-    (record {
-      met =
-          ap answered
-          (check_unswept c.args.bytes.now (length c.args.table.now) (program_of k) c.in_ok-package.ensures.met
-          (omega (arith, c.in_ok-package.ensures.fitting.code_sum, c.if-table-package.false)) (all_starts (program_of k)) _ c.in_ok-mark_all.ensures.met
-          c.in_err-takes.ensures.met);
-      memory = tt;
-      lent = tt;
-      checked = tt;
-      formed = formed_only _ (program_of k) c.in_ok-package.ensures.met (well_formed k c.in_ok-package.ensures.fitting);
-    })
+    (ap answered
+    (check_unswept c.args.bytes.now (length c.args.table.now) (program_of k) c.in_ok-package.ensures.met
+    (omega (arith, (fitting_of k).code_sum, c.if-table-package.false)) (all_starts (program_of k)) _ c.in_ok-mark_all.ensures.met c.in_err-takes.ensures.met))
 
 pub returns : goal.returns
 returns c =
@@ -74,7 +39,7 @@ returns c =
     let P : Program = program_of k in
     let e =
     check_accepted c.args.bytes.now (length c.args.table.now) P c.in_ok-package.ensures.met
-    (omega (arith, c.in_ok-package.ensures.fitting.code_sum, c.if-table-package.false)) (all_starts P) (all_tables P) c.in_ok-takes.takes
+    (omega (arith, (fitting_of c.in_ok-package.package).code_sum, c.if-table-package.false)) (all_starts P) (all_tables P) c.in_ok-takes.takes
     c.in_ok-mark_all.ensures.met c.in_ok-takes.ensures.met in
     record {
       met = ap answered e;
@@ -84,10 +49,9 @@ returns c =
       lent = c.in_ok-package.ensures.lent;
       checked =
           record {
-            fitting = c.in_ok-package.ensures.fitting;
             tables = all_tables P;
             takes = c.in_ok-takes.takes;
             judged = judge_is P (all_starts P) (all_tables P) c.in_ok-takes.takes c.in_ok-mark_all.ensures.met c.in_ok-takes.ensures.met;
           };
-      formed = formed_only _ P c.in_ok-package.ensures.met (well_formed k c.in_ok-package.ensures.fitting);
+      formed = formed_only _ P c.in_ok-package.ensures.met (well_formed k);
     }

@@ -4,42 +4,31 @@ use Rattle.bytecode.specs.Program.{Program}
 use Rattle.plan.specs.Programs.{code_at}
 use Rattle.plan.specs.Judgement.{bytes_from}
 use Rattle.reader.specs.View.{program_of}
+use Rattle.reader.proofs.Fits.{fitting_of}
 use Rattle.shapes.specs.Records.{blank_record}
 use Rattle.verifier.specs.Fresh.{fresh_part, joined_from, filled}
 use Rattle.verifier.proofs.Parts.{bytes_more, bytes_in, bytes_all, part_more, rest_blank, filled_is}
 use Rattle.verifier.proofs.Decoding.{decode_fault, decode_done}
 use Rattle.verifier.proofs.starts.mark_all.Goals as goal
 
-pub mark_part-requires : goal.mark_part-requires
-mark_part-requires c =
+pub mark_part-requires-clause-room : goal.mark_part-requires-clause-room
+mark_part-requires-clause-room c =
     let P : Program = program_of c.args.«package».now in
-    record {
-      fitting = c.requires.fitting;
-      inside = c.loop-function-test.true;
-      room =
-          omega (
-            arith,
-            c.loop-function.invariant.1,
-            bytes_in P (length P.functions) c.loop-function.function (omega (arith, c.requires.fitting.function_count)),
-            bytes_all P,
-            c.requires.fitting.code_sum,
-            c.requires.room,
-            c.loop-function.auto.table,
-          );
-      blank = c.loop-function.invariant.3;
-    }
+    omega (
+      arith,
+      c.loop-function.invariant.1,
+      bytes_in P (length P.functions) c.loop-function.function (omega arith),
+      bytes_all P,
+      (fitting_of c.args.«package».now).code_sum,
+      c.requires.room,
+      c.loop-function.auto.table,
+    )
 
-pub returns-in_err-from : goal.returns-in_err-from
-returns-in_err-from c =
+pub returns-in_err-from-clause-met : goal.returns-in_err-from-clause-met
+returns-in_err-from-clause-met c =
     let p = err_from_is_err_and c.from_residual.result c.from_residual.ensures.1 in
     let P : Program = program_of c.args.«package».now in
-    rw (p.1, p.2)
-    (record {
-      met =
-          decode_fault P (length P.functions) c.loop-function.function _ (omega (arith, c.requires.fitting.function_count)) c.loop-function.invariant.0 c.in_err-from.ensures.met;
-      decoded = tt;
-      memory = tt;
-    })
+    rw (p.1, p.2) (decode_fault P (length P.functions) c.loop-function.function _ (omega arith) c.loop-function.invariant.0 c.in_err-from.ensures.met)
 
 pub loop-function-preserved : goal.loop-function-preserved
 loop-function-preserved c =
@@ -59,9 +48,9 @@ loop-function-preserved c =
 pub returns : goal.returns
 returns c =
     let P : Program = program_of c.args.«package».now in
-    let n : c.loop-function.function ≡ length P.functions = omega (arith, c.requires.fitting.function_count) in
+    let n : c.loop-function.function ≡ length P.functions = omega arith in
     let l : c.loop-function.from ≤ length c.loop-function.table =
-    omega (arith, c.loop-function.invariant.1, ap (λ k. bytes_from P k 0) n, bytes_all P, c.requires.fitting.code_sum, c.requires.room, c.loop-function.auto.table) in
+    omega (arith, c.loop-function.invariant.1, ap (λ k. bytes_from P k 0) n, bytes_all P, (fitting_of c.args.«package».now).code_sum, c.requires.room, c.loop-function.auto.table) in
     record {
       met = decode_done P (length P.functions) (λ f l. c.loop-function.invariant.0 f (omega (arith, n)));
       decoded = λ f l. c.loop-function.invariant.0 f (omega (arith, n));

@@ -1,5 +1,6 @@
 use Rattle.std.proofs.Common.{◌≡◌, ◌+◌, ◌-◌, true, false, map, length, get_or, set, replicate, sym, ap, ◌∙◌, arith}
 use Rattle.bytecode.specs.Instructions.{walk}
+use Rattle.bytecode.specs.Outcome.{bad, shown}
 use Rattle.shapes.specs.Records.{no_record}
 use Rattle.verifier.specs.Fresh.{marks_start, fresh_record}
 use Rattle.verifier.proofs.Walking.{walk_more, walk_fault, walk_end, starts_blank, fresh_started, marks_started}
@@ -12,15 +13,12 @@ loop-place-init c =
       c.requires.blank ∙ ap (map fresh_record) (sym e),
     )
 
-pub returns-in_default : goal.returns-in_default
-returns-in_default c =
-    record {
-      met =
-          c.loop-place.invariant.0.2 ∙
-          walk_fault c.args.function c.args.code.now c.loop-place.invariant.0.0 c.loop-place.place (map marks_start c.loop-place.table) c.loop-place.invariant.0.1 c.loop-place-test.true
-          (sym c.in_default.ensures.met);
-      memory = c.loop-place.invariant.1;
-    }
+pub returns-in_default-clause-met : goal.returns-in_default-clause-met
+returns-in_default-clause-met c =
+    c.loop-place.invariant.0.2 ∙
+    walk_fault c.args.function c.args.code.now c.loop-place.invariant.0.0 c.loop-place.place (map marks_start c.loop-place.table) c.loop-place.invariant.0.1 c.loop-place-test.true
+    (sym c.in_default.ensures.met) ∙
+    ap (λ e. bad (shown e)) (sym c.refusal.ensures)
 
 pub loop-place-preserved : goal.loop-place-preserved
 loop-place-preserved c =
@@ -38,9 +36,6 @@ loop-place-preserved c =
       fresh_started c.loop-place.table c.loop-place.place c.loop-place.invariant.1,
     )
 
-pub returns : goal.returns
-returns c =
-    record {
-      met = c.loop-place.invariant.0.2 ∙ walk_end c.args.function c.args.code.now c.loop-place.invariant.0.0 c.loop-place.place (map marks_start c.loop-place.table) c.loop-place-test.false;
-      memory = c.loop-place.invariant.1;
-    }
+pub returns-clause-met : goal.returns-clause-met
+returns-clause-met c =
+    c.loop-place.invariant.0.2 ∙ walk_end c.args.function c.args.code.now c.loop-place.invariant.0.0 c.loop-place.place (map marks_start c.loop-place.table) c.loop-place-test.false

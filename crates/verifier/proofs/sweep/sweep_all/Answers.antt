@@ -4,6 +4,7 @@ use Rattle.bytecode.specs.Program.{Program}
 use Rattle.plan.specs.Programs.{code_at}
 use Rattle.plan.specs.Judgement.{bytes_from}
 use Rattle.reader.specs.View.{program_of}
+use Rattle.reader.proofs.Fits.{fitting_of}
 use Rattle.shapes.specs.declared.table.ShapeRecord.{ShapeRecord}
 use Rattle.shapes.specs.Records.{working_record, blank_record}
 use Rattle.verifier.specs.Fresh.{fresh_part, joined_from, filled, fresh_all}
@@ -16,43 +17,34 @@ use Rattle.verifier.proofs.sweep.sweep_all.Goals as goal
 pub loop-function-init : goal.loop-function-init
 loop-function-init c = (λ g h. absurd (omega arith), refl, refl, refl, sym (takes_none (program_of c.args.«package».now)), omega arith)
 
-pub sweep_part-requires : goal.sweep_part-requires
-sweep_part-requires c =
+pub sweep_part-requires-clause-room : goal.sweep_part-requires-clause-room
+sweep_part-requires-clause-room c =
+    let P : Program = program_of c.args.«package».now in
+    omega
+    (arith, c.loop-function.invariant.1, bytes_in P (length P.functions) c.loop-function.function (omega arith), bytes_all P, (fitting_of c.args.«package».now).code_sum, c.requires.room, c.loop-function.auto.table)
+
+pub sweep_part-requires-clause-fresh : goal.sweep_part-requires-clause-fresh
+sweep_part-requires-clause-fresh c =
     let P : Program = program_of c.args.«package».now in
     let i : ℕ = c.loop-function.function in
-    let n = length P.functions in
-    record {
-      fitting = c.requires.fitting;
-      inside = c.loop-function-test.true;
-      room =
-          omega
-          (arith, c.loop-function.invariant.1, bytes_in P n i (omega (arith, c.requires.fitting.function_count)), bytes_all P, c.requires.fitting.code_sum, c.requires.room, c.loop-function.auto.table);
-      fresh =
-          ap (take (length (code_at P i))) (c.loop-function.invariant.3 ∙ ap (drop c.loop-function.from) c.requires.fresh ∙ ap (λ k. drop k (fresh_all P (length c.args.table.now))) c.loop-function.invariant.1) ∙
-          part_of (fresh_part P) P n i _ (omega (arith, c.requires.fitting.function_count)) (λ g l. fresh_long P g (c.requires.decoded g l));
-      decoded = c.requires.decoded i (omega (arith, c.requires.fitting.function_count));
-    }
+    ap (take (length (code_at P i))) (c.loop-function.invariant.3 ∙ ap (drop c.loop-function.from) c.requires.fresh ∙ ap (λ k. drop k (fresh_all P (length c.args.table.now))) c.loop-function.invariant.1) ∙
+    part_of (fresh_part P) P (length P.functions) i _ (omega arith) (λ g l. fresh_long P g (c.requires.decoded g l))
 
-pub returns-in_err-takes : goal.returns-in_err-takes
-returns-in_err-takes c =
+pub returns-in_err-takes-clause-met : goal.returns-in_err-takes-clause-met
+returns-in_err-takes-clause-met c =
     let p = err_from_is_err_and c.from_residual.result c.from_residual.ensures.1 in
     let P : Program = program_of c.args.«package».now in
-    rw (p.1, p.2)
-    (record {
-      met =
-          sweep_fault P (length P.functions) c.loop-function.function _ (omega (arith, c.requires.fitting.function_count)) c.loop-function.invariant.0 c.in_err-takes.ensures.met;
-      memory = tt;
-    })
+    rw (p.1, p.2) (sweep_fault P (length P.functions) c.loop-function.function _ (omega arith) c.loop-function.invariant.0 c.in_err-takes.ensures.met)
 
 pub overflow_add-takes : goal.overflow_add-takes
 overflow_add-takes c =
     let P : Program = program_of c.args.«package».now in
-    omega (arith, c.loop-function.invariant.1, c.loop-function.invariant.5, c.in_ok-takes.ensures.few, bytes_in P (length P.functions) c.loop-function.function (omega (arith, c.requires.fitting.function_count)), bytes_all P, c.requires.fitting.functions.little)
+    omega (arith, c.loop-function.invariant.1, c.loop-function.invariant.5, c.in_ok-takes.ensures.few, bytes_in P (length P.functions) c.loop-function.function (omega arith), bytes_all P, (fitting_of c.args.«package».now).little)
 
 pub overflow_add-from : goal.overflow_add-from
 overflow_add-from c =
     let P : Program = program_of c.args.«package».now in
-    omega (arith, ap length c.code.ensures.met, c.loop-function.invariant.1, bytes_in P (length P.functions) c.loop-function.function (omega (arith, c.requires.fitting.function_count)), bytes_all P, c.requires.fitting.functions.little)
+    omega (arith, ap length c.code.ensures.met, c.loop-function.invariant.1, bytes_in P (length P.functions) c.loop-function.function (omega arith), bytes_all P, (fitting_of c.args.«package».now).little)
 
 pub loop-function-preserved : goal.loop-function-preserved
 loop-function-preserved c =
@@ -75,9 +67,9 @@ loop-function-preserved c =
 pub returns : goal.returns
 returns c =
     let P : Program = program_of c.args.«package».now in
-    let n : c.loop-function.function ≡ length P.functions = omega (arith, c.requires.fitting.function_count) in
+    let n : c.loop-function.function ≡ length P.functions = omega arith in
     let b : c.loop-function.from ≡ bytes_from P (length P.functions) 0 = c.loop-function.invariant.1 ∙ ap (λ k. bytes_from P k 0) n in
-    let l : c.loop-function.from ≤ length c.loop-function.table = omega (arith, b, bytes_all P, c.requires.fitting.code_sum, c.requires.room, c.loop-function.auto.table) in
+    let l : c.loop-function.from ≤ length c.loop-function.table = omega (arith, b, bytes_all P, (fitting_of c.args.«package».now).code_sum, c.requires.room, c.loop-function.auto.table) in
     let part : ℕ → List ShapeRecord = λ g. map working_record (swept_table P g) in
     let rest : drop c.loop-function.from c.loop-function.table ≡ replicate (length c.loop-function.table - c.loop-function.from) blank_record =
     c.loop-function.invariant.3 ∙ ap (drop c.loop-function.from) c.requires.fresh ∙

@@ -1,20 +1,17 @@
-use Rattle.std.proofs.Common.{length, ap, ◌∙◌, arith}
-use Rattle.reader.specs.View.{function_of, no_function, no_function_record, FunctionFits, FunctionBehind, FunctionLettered}
-use Rattle.reader.proofs.Places.{front_at_lem, kinds_length}
-use Rattle.reader.proofs.Turns.{all_at}
+use Rattle.std.proofs.Common.{◌<◌, arith}
+use Rattle.reader.specs.Entries.{function_entry, function_of, FunctionFits, FunctionBehind, FunctionLettered}
+use Rattle.reader.specs.View.{no_function}
+use Rattle.reader.proofs.Fits.{function_counted}
+use Rattle.reader.proofs.Places.{front_at_lem, all_at, entry_at}
 use Rattle.reader.proofs.package.Package.function_at.Goals as goal
 
 pub returns : goal.returns
 returns c =
-    let bs = c.args.self.now.bytes.now in
-    let fs = c.args.self.now.functions in
-    let n = c.args.self.now.function_count in
-    let met = front_at_lem (function_of bs) fs n c.args.function no_function_record no_function (omega arith) c.requires.inside in
-    let lettered = all_at (FunctionLettered bs) fs n c.args.function no_function_record (omega arith) c.requires.inside c.requires.fitting.functions.lettered in
+    let p = c.args.self.now in
+    let inside : c.args.function < p.function_count = omega (arith, function_counted p, c.requires) in
     record {
-      met = met;
-      fits = all_at (FunctionFits bs) fs n c.args.function no_function_record (omega arith) c.requires.inside c.requires.fitting.functions.each;
-      lettered = lettered;
-      behind = all_at (FunctionBehind bs) fs n c.args.function no_function_record (omega arith) c.requires.inside c.requires.fitting.behind;
-      takes = ap (λ f. length f.signature.arguments) met ∙ kinds_length bs _ _ lettered;
+      met = front_at_lem function_of p.functions p.function_count c.args.function _ no_function (omega arith) inside;
+      fits = entry_at function_entry FunctionFits p.functions p.function_count c.args.function _ (omega arith) inside p.functions_known.each;
+      behind = entry_at function_entry (FunctionBehind 2) p.functions p.function_count c.args.function _ (omega arith) inside p.functions_known.behind;
+      lettered = all_at FunctionLettered p.functions p.function_count c.args.function _ (omega arith) inside p.functions_known.lettered;
     }

@@ -1,19 +1,16 @@
-use Rattle.std.proofs.Common.{length, ap, ◌∙◌, arith}
-use Rattle.reader.specs.View.{native_of, no_native, no_native_record, NativeFits, NativeLettered}
-use Rattle.reader.proofs.Places.{front_at_lem, kinds_length}
-use Rattle.reader.proofs.Turns.{all_at}
+use Rattle.std.proofs.Common.{◌<◌, arith}
+use Rattle.reader.specs.Entries.{native_entry, native_of, NativeFits, NativeLettered}
+use Rattle.reader.specs.View.{no_native}
+use Rattle.reader.proofs.Fits.{native_counted}
+use Rattle.reader.proofs.Places.{front_at_lem, all_at, entry_at}
 use Rattle.reader.proofs.package.Package.native_at.Goals as goal
 
 pub returns : goal.returns
 returns c =
-    let bs = c.args.self.now.bytes.now in
-    let fs = c.args.self.now.natives in
-    let n = c.args.self.now.native_count in
-    let met = front_at_lem (native_of bs) fs n c.args.native no_native_record no_native (omega arith) c.requires.inside in
-    let lettered = all_at (NativeLettered bs) fs n c.args.native no_native_record (omega arith) c.requires.inside c.requires.fitting.natives.lettered in
+    let p = c.args.self.now in
+    let inside : c.args.native < p.native_count = omega (arith, native_counted p, c.requires) in
     record {
-      met = met;
-      fits = all_at NativeFits fs n c.args.native no_native_record (omega arith) c.requires.inside c.requires.fitting.natives.each;
-      lettered = lettered;
-      takes = ap (λ f. length f.signature.arguments) met ∙ kinds_length bs _ _ lettered;
+      met = front_at_lem native_of p.natives p.native_count c.args.native _ no_native (omega arith) inside;
+      fits = entry_at native_entry NativeFits p.natives p.native_count c.args.native _ (omega arith) inside p.natives_known.each;
+      lettered = all_at NativeLettered p.natives p.native_count c.args.native _ (omega arith) inside p.natives_known.lettered;
     }

@@ -1,8 +1,8 @@
-use Rattle.std.proofs.Common.{◌≡◌, ◌+◌, drop, Some, None, Ok, sym, ap, ◌∙◌, subst, arith}
+use Rattle.std.proofs.Common.{◌≡◌, ℕ, ◌≤◌, length, drop, Some, None, Ok, sym, ap, ap₂, ◌∙◌, subst, arith}
 use Rattle.source.specs.declared.hex.Cursor.{Cursor}
+use Rattle.source.specs.declared.hex.Position.{Position}
 use Rattle.source.specs.Rest.{next_of, after_next}
-use Rattle.source.specs.Hex.{between, right}
-use Rattle.source.specs.Skipping.{Inside}
+use Rattle.source.specs.Hex.{between}
 use Rattle.source.proofs.Answering.{end_stays}
 use Rattle.source.proofs.Characters.{byte-answered-at}
 use Rattle.source.proofs.hex.HexTextSource.next.Goals as goal
@@ -16,10 +16,9 @@ invariant_of-self c =
       | in-Some w ↦
           let told : next_of (between (drop start.offset t) start.at) ≡ Ok (Some w.in-Some.field-0) = sym c.in_ok-found.ensures ∙ ap Ok w.in-Some.is in
           let found = byte-answered-at t start.offset start.at w.in-Some.field-0 c.skip_blanks-start.ensures.passed told in
-          let here = c.skip_blanks-start.ensures.inside in
-          let behind : Inside t (record { offset = start.offset + 2; at = right (right start.at) }) = (found.0, omega arith, omega arith) in
-          record { within = subst (λ (r : Cursor). Inside t r) (sym (w.self-is ∙ w.behind_byte-self.ensures)) behind }
-      | in-None w ↦ record { within = subst (λ (r : Cursor). Inside t r) (sym w.self-is) c.skip_blanks-start.ensures.inside }
+          let behind = w.behind_byte-self.ensures in
+          record { within = subst (λ (r : Cursor). r.offset ≤ length t) (sym w.self-is) (omega (arith, behind.offset, found.0)) }
+      | in-None w ↦ record { within = subst (λ (r : Cursor). r.offset ≤ length t) (sym w.self-is) c.skip_blanks-start.ensures.inside }
     ]
 
 pub returns : goal.returns
@@ -35,7 +34,8 @@ returns c =
           record {
             value = value;
             after =
-                ap (λ (r : Cursor). between (drop r.offset t) r.at) (w.self-is ∙ w.behind_byte-self.ensures)
+                ap (λ (r : Cursor). between (drop r.offset t) r.at) w.self-is
+                ∙ ap₂ (λ (o : ℕ) (at : Position). between (drop o t) at) w.behind_byte-self.ensures.offset w.behind_byte-self.ensures.at
                 ∙ sym (ap after_next (sym same ∙ found.1));
           }
       | in-None w ↦
