@@ -52,6 +52,7 @@ pub struct Report {
     pub second: usize,
 }
 
+// Each sort of fault has numbers of its own in the definitions, so each has this one line.
 impl FieldFault {
     fn number(self) -> u8
         ensures { result ≡ field_number self }

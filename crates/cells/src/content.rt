@@ -78,6 +78,7 @@ impl Content for Word {
         if cell.mark {
             return Err(Stop::Mark);
         }
+        // `copy_from_slice` was tried: the check does not see that it leaves the list of the definition.
         let [first, second, third, fourth] = value.to_be_bytes();
         cell.bytes[byte] = first;
         cell.bytes[byte + 1] = second;
@@ -177,5 +178,6 @@ impl Content for Reference {
 pub(crate) fn array_header(n: u32, s: u8) -> [u8; 8]
     ensures { result ≡ header n s }
 {
+    // As the definition has it; an array put together of two would need a lemma on its halves.
     (n as u64 * 4294967296 + s as u64).to_be_bytes()
 }

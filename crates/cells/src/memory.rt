@@ -1,4 +1,5 @@
 // The memory, and the memory instructions on it. References are numbers: 0 is null, p + 1 is text p, (b + 1) * 2^32 + o is offset o of block b.
+// An enum would need more room than a slot of 64 bits, in which words lie too.
 ghost use Rattle.std.specs.Prelude.{◌≡◌, ◌+◌, ◌-◌, ◌*◌, ◌^◌, ◌<◌, ◌≤◌, true, length};
 ghost use Rattle.heap.specs.Storage.{Sound, Known, Bounded, by_sort, block_of, offset_of, record_in, new_single, new_array, array_at, array_length, add_index, add_field, locate, taken, has_room};
 ghost use Rattle.heap.specs.Relation.{Names};
@@ -28,7 +29,8 @@ struct Address {
     offset: u64,
 }
 
-// That a number names a block that there is depends on the memory: a clause of each call says it, and no type of numbers could.
+// That a number names a block that there is depends on the memory: a clause of each call says it, and no type of numbers could. What a call
+// keeps is a clause of each call too.
 impl<'a> Memory<'a> {
     ghost use Rattle.cells.specs.View.{storage_of, attempt_of, leaves, allocates, load, store, Kept, Given};
 

@@ -23,6 +23,7 @@ pub fn samples_stand() -> u32
 }
 
 /// A host of any make does what its behaviour does, whose states are lists of calls.
+// The running machine has such a theorem too: a theorem of both would need their definitions as parameters.
 pub fn behaviour_stands<S>() -> u8
     ensures { (host : Host S) (s : S) → Lawful host → Behaves host s }
 {

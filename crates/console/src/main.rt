@@ -23,7 +23,7 @@ use verifier::program::{Program, check};
 mod arguments;
 mod play;
 
-// The words of the drive host, signed.
+// The words of the drive host, signed. The tour tells two of them, in words of its own.
 fn show_drive(rt: &HostRuntime, drive: &Drive) -> io::Result<()> {
     print!(rt; "drive")?;
     for word in drive.words() {
@@ -52,6 +52,7 @@ fn start(rt: &HostRuntime, program: Program<'_>, asked: &Asked) -> Result<(), Fa
     if let Err(refused) = allows(&program, sizes) {
         return Err(Failure::Refused(Report::from(refused)));
     }
+    // The tour has these four lines too: a function would answer the four and the memory that borrows from them.
     let mut slots = vec![in rt.alloc(); 0u64; sizes.slots]?;
     let mut frames = vec![in rt.alloc(); FrameRecord::default(); sizes.frames]?;
     let mut cells = vec![in rt.alloc(); Cell::default(); sizes.cells]?;
@@ -80,7 +81,8 @@ fn start(rt: &HostRuntime, program: Program<'_>, asked: &Asked) -> Result<(), Fa
     Ok(())
 }
 
-// Loads and checks the text on standard input, and starts what is accepted.
+// Loads and checks the text on standard input, and starts what is accepted. What is accepted borrows from the bytes, so each program
+// checks in its own lines.
 fn load_and_start(rt: &HostRuntime, asked: &Asked) -> Result<(), Failure> {
     let bytes = read_hex(rt)?;
     let mut table = vec![in rt.alloc(); blank_record(); RECORDS]?;

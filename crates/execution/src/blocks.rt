@@ -9,6 +9,7 @@ use crate::Execution;
 use bytecode::stop::Stop;
 use cells::content::{Byte, Reference, Word};
 
+// What an instruction takes is asked by clauses: it holds of the state at hand.
 impl<'a> Execution<'a> {
     // The number of the reference in a slot.
     fn reference(&mut self, at: usize) -> u64

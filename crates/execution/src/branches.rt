@@ -44,7 +44,8 @@ impl<'a> Execution<'a> {
         self.frame.place = target(self.frame.place, offset).unwrap();
     }
 
-    // Takes two values off, and goes on at the branch's target or at the next place.
+    // Takes two values off, and goes on at the branch's target or at the next place. What is compared is the caller's: a closure for it would
+    // need a contract on the whole state, longer than the three branches below. Offset and next place are numbers of the instruction at hand.
     fn branch(&mut self, taken: bool, offset: i16, next: usize)
         requires bounds { Bounds (state_of self.old) }
         requires two { 2 ≤ (state_of self.old).top }

@@ -12,6 +12,8 @@ use bytecode::stop::Stop;
 use reader::package::Package;
 use runtime::FrameRecord;
 
+// What an instruction takes is asked by clauses: it holds of the state at hand.
+
 /// The entries of its operand stack that each frame reserves, besides its variables.
 const STACK: usize = 32;
 

@@ -3,7 +3,7 @@ use crate::text::Text;
 use bytecode::kind::Kind;
 use bytecode::stop::HostFault;
 
-/// An argument of a call: a word, or a reference, of which a host sees only whether it is null.
+/// An argument of a call: a word, or a reference, of which a host sees only whether it is null: with no value beside that.
 #[derive(Clone, Copy, Debug, PartialEq, Eq)]
 pub enum Argument {
     Word(u32),
@@ -21,6 +21,7 @@ pub struct Call<'a, 't> {
 }
 
 /// A host's answer to a call: a word, null, a reference argument by its number among them, or a stop.
+// The four are defined side by side, as what a host may say: so a stop is one of them and no error beside them.
 #[derive(Clone, Copy, Debug, PartialEq, Eq)]
 pub enum Reply {
     Word(u32),

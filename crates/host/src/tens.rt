@@ -5,7 +5,8 @@ ghost use Rattle.host.specs.Lines.{tens, in_tens};
 // A word in tens has at most ten digits and a sign.
 pub const ROOM: usize = 11;
 
-// Writes a number in tens so that it ends where `out` ends, and answers its bytes.
+// Writes a number in tens so that it ends where `out` ends, and answers its bytes. By hand, as the text is a part of what hosts are
+// proved to write, and `Display` promises nothing of what it writes.
 #[tactic(auto, using(crate::proofs::Spelling::sign_before))]
 pub fn write_number(out: &mut [u8; ROOM], value: i32) -> &[u8]
     ensures { result.now ≡ in_tens value }

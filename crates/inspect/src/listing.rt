@@ -4,6 +4,8 @@ use bytecode::instruction::decode;
 use reader::package::{Package, Signature};
 use std::io;
 
+// The runtime goes beside what is printed: no value here is more than shown.
+
 // The instructions of a code in order; the listing ends where one is unknown or cut. Each says how far the next is, so no range counts them.
 fn instructions(rt: &HostRuntime, code: &[u8]) -> io::Result<()> {
     let mut place = 0;
@@ -26,7 +28,7 @@ fn integers(rt: &HostRuntime, package: &Package) -> io::Result<()> {
     Ok(())
 }
 
-// The kinds of the arguments and of the result, by their letters.
+// The kinds of the arguments and of the result, by the letters that stand in the sheet.
 fn kinds(rt: &HostRuntime, signature: &Signature) -> io::Result<()> {
     if signature.argument_letters.is_empty() {
         print!(rt; ".")?;
@@ -53,6 +55,7 @@ fn functions(rt: &HostRuntime, package: &Package) -> io::Result<()> {
     Ok(())
 }
 
+// Natives have an index and no code, so they have lines of their own.
 fn natives(rt: &HostRuntime, package: &Package) -> io::Result<()> {
     println!(rt; "natives {}", package.native_count())?;
     // By number, which is printed.

@@ -117,7 +117,7 @@ impl From<NoFrame> for Report {
     }
 }
 
-// A refusal with a number and no place.
+// A refusal with a number and no place: a `From` takes one value alone, and three would hold the same record.
 fn numbered(number: u8) -> Report
     ensures { result ≡ report (number, 0, 0) }
 {

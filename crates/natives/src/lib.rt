@@ -41,6 +41,7 @@ fn argument(kind: Kind, slot: u64) -> Argument
     ensures { result ≡ argument_of kind slot }
 {
     match kind {
+        // A cast must lose nothing, and no method takes the low half of a number.
         Kind::Word => Argument::Word((slot % WORDS) as u32),
         Kind::Reference => Argument::Reference { null: slot == 0 },
     }
@@ -106,7 +107,7 @@ impl NativeCall<'_, '_, '_> {
     {
         let signature = self.callee.signature();
         let mut told = [Argument::Word(0); 4];
-        // By index: of what is written through a zip of `iter_mut` no proof knows anything.
+        // By index: of what is written through a zip of `iter_mut` no proof knows anything. There is no heap: a native has at most four arguments.
         for (i, slot) in self.slots.iter().enumerate() {
             told[i] = argument(signature.argument_kind(i), *slot);
         }

@@ -9,6 +9,7 @@ use shapes::table::{ShapeMark, ShapeRecord, blank_record};
 use std::io;
 use verifier::program::{Program, check};
 
+// The first kinds of a record, in which both lists are arrays.
 fn print_kinds(rt: &HostRuntime, kinds: &[Option<Kind>; 32], count: usize) -> io::Result<()> {
     if count == 0 {
         return print!(rt; " .");
@@ -52,6 +53,7 @@ fn print_plans(rt: &HostRuntime, program: &Program, table: &[ShapeRecord]) -> io
     Ok(())
 }
 
+// What is accepted borrows from the bytes, so each program checks in its own lines.
 fn judge(rt: &HostRuntime) -> Result<(), Failure> {
     let bytes = read_hex(rt)?;
     let mut table = vec![in rt.alloc(); blank_record(); RECORDS]?;

@@ -75,6 +75,8 @@ pub struct NativeEntry {
     pub index: u16,
 }
 
+// Functions and natives stand apart, with methods of their own: they are two pools with numbers of their own, and have little else in common.
+
 /// A function, with its signature from the sheet.
 #[derive(Clone, Copy)]
 pub struct Function<'a> {

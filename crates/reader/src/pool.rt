@@ -98,7 +98,8 @@ fn read_function<'a>(
     })
 }
 
-// Reads a function for each place of a list, and answers how many code bytes they have.
+// Reads a function for each place of a list, and answers how many code bytes they have. The cursor goes beside the list: a struct of both
+// would owe a clause on each in every method.
 pub(crate) fn read_functions<'a>(
     cursor: &mut Cursor<'a>,
     functions: &mut [Function<'a>],

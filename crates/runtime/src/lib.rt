@@ -24,6 +24,7 @@ pub fn law_stands<S>() -> u8
 }
 
 /// A run with a host of any make is a run with its behaviour, whose states are lists of calls.
+// The checked machine has such a theorem too: a theorem of both would need their definitions as parameters.
 pub fn behaviour_stands<S>() -> u8
     ensures { (host : Host S) (s : S) → Lawful host → Behaves host s }
 {

@@ -20,7 +20,7 @@ pub enum ShapeMark {
 }
 
 /// A record of the table, for one byte of code: the kinds on the stack, the bottom first, and of the variables; none where unused.
-// The parts stand side by side whatever the mark: so the table's records are defined.
+// The parts stand side by side whatever the mark: the table's records are defined so, and hold a place's stack when it is marked anew.
 #[derive(Clone, Copy, PartialEq, Eq)]
 pub struct ShapeRecord {
     pub mark: ShapeMark,

@@ -121,6 +121,7 @@ fn skip_blanks(text: &[u8], from: Cursor) -> Cursor
 {
     let mut here = from;
     let mut in_comment = false;
+    // The cursor counts lines and columns too, so it goes beside the loop.
     for c in &text[from.offset..] {
         if in_comment {
             in_comment = *c != b'\n';

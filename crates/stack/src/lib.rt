@@ -12,7 +12,8 @@ mod within;
 /// `push`, `pop`, `peek`, `get`, `set` and `truncate` test and refuse. `push_within`, `pop_within`, `at`, `put`, `resize` and
 /// `part` are for a machine that knows its bounds: they test nothing, and their callers show that the entry is there.
 /// A question takes the stack for writing and promises that nothing changed.
-// The room is lent, with no heap that it could grow in: so a length stands beside it.
+// The room is lent, with no heap that it could grow in: so a length stands beside it. What a call leaves as it was is a clause of the call:
+// no field could say it.
 #[derive(Drop)]
 pub struct Stack<'a, T> {
     room: &'a mut [T],

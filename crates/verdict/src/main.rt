@@ -7,6 +7,7 @@ use shapes::table::blank_record;
 use std::io;
 use verifier::program::check;
 
+// What is accepted borrows from the bytes, so each program checks in its own lines.
 fn judge(rt: &HostRuntime) -> Result<(), Failure> {
     let bytes = read_hex(rt)?;
     let mut table = vec![in rt.alloc(); blank_record(); RECORDS]?;

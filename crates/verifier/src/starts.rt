@@ -55,7 +55,7 @@ impl Body<'_> {
     }
 }
 
-// Decodes all functions, in pool order.
+// Decodes all functions, in pool order, before any is swept.
 pub(crate) fn mark_all(package: &Package, table: &mut [ShapeRecord]) -> Result<(), Refusal>
     requires room { «package».now.code_size ≤ length table.old }
     requires blank { table.old ≡ replicate (length table.old) blank_record }
@@ -64,7 +64,7 @@ pub(crate) fn mark_all(package: &Package, table: &mut [ShapeRecord]) -> Result<(
     ensures memory { OnOk result (table.new ≡ fresh_all (program_of «package».now) (length table.old)) }
 {
     let mut from = 0;
-    // A package names its functions by their numbers, which faults tell too.
+    // A package names its functions by their numbers, which faults tell too; each part of the table begins where the one before ends.
     for function in 0..package.function_count() {
         let body = Body {
             package: &*package,

@@ -19,6 +19,7 @@ use shapes::table::{ShapeMark, ShapeRecord};
 impl Body<'_> {
     ghost use Rattle.verifier.specs.Bodies.{program_in, code_in, starts_in};
 
+    // That the table is neat is a clause of each act on it: the table is lent, and a type around it would owe clauses on the loan.
     // Takes the lowest marked place: unmarks it, applies its instruction and goes on. Answers a bound below which nothing is marked.
     #[tactic(auto, using(crate::proofs::Taking::visiting, crate::proofs::Spreading::neat_set, crate::proofs::Faults::placing))]
     fn visit(&self, table: &mut [ShapeRecord], place: usize) -> Result<usize, Refusal>
@@ -64,7 +65,7 @@ impl Body<'_> {
         Ok(takes)
     }
 
-    // The same where the function's part of the table begins at `from`.
+    // The same where the function's part of the table begins at `from`; beside the decoding of a part, which says why both stand.
     #[tactic(auto, using(crate::proofs::Parts::part_after, crate::proofs::Parts::part_read, crate::proofs::Sweeping::told_swept, crate::proofs::Sweeping::made_working))]
     fn sweep_part(&self, table: &mut [ShapeRecord], from: usize) -> Result<usize, Refusal>
         requires room { from + length (code_in self.now) ≤ length table.old }
@@ -81,7 +82,8 @@ impl Body<'_> {
     }
 }
 
-// Sweeps all functions, in pool order; answers the takes of all.
+// Sweeps all functions, in pool order; answers the takes of all. A loop of its own beside the decoding's: it adds up another thing, and leaves
+// another fact of the table at each step.
 pub(crate) fn sweep_all(package: &Package, table: &mut [ShapeRecord]) -> Result<usize, Refusal>
     requires room { «package».now.code_size ≤ length table.old }
     requires decoded { AllDecoded (program_of «package».now) }
@@ -91,7 +93,7 @@ pub(crate) fn sweep_all(package: &Package, table: &mut [ShapeRecord]) -> Result<
 {
     let mut takes = 0;
     let mut from = 0;
-    // A package names its functions by their numbers, which faults tell too.
+    // A package names its functions by their numbers, which faults tell too; each part of the table begins where the one before ends.
     for function in 0..package.function_count() {
         let body = Body {
             package: &*package,
