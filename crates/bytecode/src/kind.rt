@@ -1,9 +1,11 @@
 // Kinds of values.
 use std::fmt;
 
-/// The kind of a value: a 32-bit word, or a reference.
+/// The kind of a stack entry or a variable: a 32-bit word, or a reference.
+/// `Unknown` is in words "none": a variable that no kind is known of. No stack entry of an accepted program has it.
 #[derive(Clone, Copy, Debug, PartialEq, Eq)]
 pub enum Kind {
+    Unknown,
     Word,
     Reference,
 }
@@ -12,6 +14,7 @@ pub enum Kind {
 impl fmt::Display for Kind {
     fn fmt<W: fmt::Write>(&self, f: &mut fmt::Formatter<W>) -> fmt::Result {
         f.write_str(match self {
+            Kind::Unknown => "-",
             Kind::Word => "w",
             Kind::Reference => "a",
         })

@@ -16,11 +16,11 @@ const OFFSETS: u64 = 1 << 32;
 /// Lent cells and block records, of which the first `used` and `count` are in use. They are lent, so that the counts stand beside them.
 #[derive(Drop)]
 pub struct Memory<'a> {
-    cells: &'a mut [Cell],
-    used: usize,
-    records: &'a mut [BlockRecord],
-    count: usize,
-    ghost sound: { Sound (record { cells = cells.now; used = used; records = records.now; count = count }) },
+    pub cells: &'a mut [Cell],
+    pub used: usize,
+    pub records: &'a mut [BlockRecord],
+    pub count: usize,
+    pub ghost sound: { Sound (record { cells = cells.now; used = used; records = records.now; count = count }) },
 }
 
 /// Where a reference to a block points: the block's record, and an offset in bytes.

@@ -1,7 +1,7 @@
 -- A host's behaviour does what the host does.
 use Rattle.std.proofs.Common.{◌≡◌, ℕ, zero, suc, ◌+◌, Bool, true, false, cond, not, eqb, ltb, leb, List, [], ◌∷◌, length, ℤ, Some, None, Option, sym, refl, ap, ◌∙◌, subst}
 use Rattle.bytecode.specs.declared.kind.Kind.{Kind}
-use Rattle.bytecode.specs.declared.kind.Kind.TheVariants.{Word, Reference as Ref}
+use Rattle.bytecode.specs.declared.kind.Kind.TheVariants.{Unknown, Word, Reference as Ref}
 use Rattle.bytecode.specs.declared.instruction.Instruction.{Instruction}
 use Rattle.bytecode.specs.declared.instruction.Instruction.TheVariants.{Nop, Pop, Dup, Swap, AconstNull, Aldc, Bipush, Ildc, Vload, Vstore, Binary, IfCmpeq, IfCmpne, IfIcmp, Goto, Invokestatic, Invokenative, Return, New, Newarray, Arraylength, Aaddf, Aadds, Imload, Cmload, Amload, Imstore, Cmstore, Amstore}
 use Rattle.bytecode.specs.Instructions.{size_of, decode_at, target}
@@ -111,6 +111,10 @@ module _ {S : Type 0} (host : Host S) (s : S) where
 
   answered_seen : (past : List Call) (k : Kind) (r : Reply) (rs : List Reference) (c : Value → Next Conf (List Call)) (d : Value → Next Conf S) → ((v : Value) → seen (c v) ≡ d v)
       → seen (answered k r rs past c) ≡ answered k r rs (reached host s past) d
+  answered_seen past Unknown (Reply.Word n) rs c d g = refl
+  answered_seen past Unknown Reply.Null rs c d g = refl
+  answered_seen past Unknown (Reply.Argument j) rs c d g = refl
+  answered_seen past Unknown (Reply.Stop e) rs c d g = refl
   answered_seen past Word (Reply.Word n) rs c d g = g (word n)
   answered_seen past Word Reply.Null rs c d g = refl
   answered_seen past Word (Reply.Argument j) rs c d g = refl

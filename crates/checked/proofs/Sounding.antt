@@ -3,7 +3,7 @@ use Rattle.std.proofs.Common.{◌≡◌, ℕ, suc, ◌+◌, ◌-◌, ◌<◌, �
 use lib.ListN.{length-map}
 use Rattle.std.proofs.lemmas.Option.{get_or_from_slice_get, slice_get_within}
 use Rattle.bytecode.specs.declared.kind.Kind.{Kind}
-use Rattle.bytecode.specs.declared.kind.Kind.TheVariants.{Word, Reference as Ref}
+use Rattle.bytecode.specs.declared.kind.Kind.TheVariants.{Unknown, Word, Reference as Ref}
 use Rattle.bytecode.specs.declared.stop.Stop.TheVariants.{Native as NoNative}
 use Rattle.bytecode.specs.declared.instruction.Instruction.{Instruction}
 use Rattle.bytecode.specs.declared.instruction.Instruction.TheVariants.{Nop, Pop, Dup, Swap, AconstNull, Aldc, Bipush, Ildc, Vload, Vstore, Binary, IfCmpeq, IfCmpne, IfIcmp, Goto, Invokestatic, Invokenative, Return, New, Newarray, Arraylength, Aaddf, Aadds, Imload, Cmload, Amload, Imstore, Cmstore, Amstore}
@@ -82,6 +82,7 @@ module _ (P : Program) (plans : Plans) where
     answered_fine Suits.null rs e s c g = g (reference null) refl
     answered_fine (Suits.argument {n} {i} lt) rs e s c g =
         let x = nth_some rs i (omega arith) in found_fine (nth rs i) s (λ r. c (reference r)) x.0 x.1 (g (reference x.0) refl)
+    answered_fine (Suits.stop {k = Unknown}) rs e s c g = tt
     answered_fine (Suits.stop {k = Word}) rs e s c g = tt
     answered_fine (Suits.stop {k = Ref}) rs e s c g = tt
 
@@ -168,7 +169,7 @@ module _ (P : Program) (plans : Plans) (ok : Accepted P plans) where
             (entry_length a.args g.variables (length g.signature.arguments) n (ok.formed.functions c g known).counted)
             (good_plan c g known).begins refl
             (subst (λ k. Holding (map Some a.args ++ replicate (g.variables - length a.args) None) (entry_of k).variables) (sym is_g)
-            (subst (λ k. Holding (map Some a.args ++ replicate (g.variables - length a.args) None) (map Some k ++ replicate (32 - length k) None)) a.kinds_args
+            (subst (λ k. Holding (map Some a.args ++ replicate (g.variables - length a.args) None) (k ++ replicate (32 - length k) Unknown)) a.kinds_args
             (entry_holding a.args (g.variables - length a.args) (32 - length (map kind_of a.args)))))
 
         waiting : Callers P plans c (frame f q vs a.left ∷ rest)
@@ -253,7 +254,7 @@ module _ (P : Program) (plans : Plans) (ok : Accepted P plans) where
         → Fine P plans (found (variable vs i) s (λ v. room_for st s (resume f q vs (v ∷ st) rest h s)))
     loading i q r e hit =
         let x = loads f p V i d.shape r e in
-        let v = held_value x.kind (variable vs i) (subst (λ k. Held k (variable vs i)) x.there (d.holding i)) in
+        let v = held_value x.kind (variable vs i) x.known (subst (λ k. Held k (variable vs i)) x.there (d.holding i)) in
         found_fine P plans (variable vs i) s _ v.0 v.1
         (room_fine P plans st s _ (low x.kind r x.after x.low)
         (on r q vs (v.0 ∷ st) h s hit (x.after ∙ (let b = d.stack in let c = v.2 in cc)) (subst (Holding vs) (sym x.same) d.holding) refl))
@@ -271,7 +272,7 @@ module _ (P : Program) (plans : Plans) (ok : Accepted P plans) where
         subst (λ b. Fine P plans (cond b (resume f q (set vs i (Some v)) t rest h s) (breaks s))) (sym (lt-ltb i (length vs) n))
         (on r q (set vs i (Some v)) t h s hit (sym (kinds_are kt))
         (subst (Holding (set vs i (Some v))) (sym x.after)
-        (subst (λ k. Holding (set vs i (Some v)) (set d.shape.variables i (Some k))) kv (holding_set vs d.shape.variables i v n m d.holding)))
+        (subst (λ k. Holding (set vs i (Some v)) (set d.shape.variables i k)) kv (holding_set vs d.shape.variables i v n m d.holding)))
         (length-set vs i (Some v))))
 
     comparing : (q : ℕ) (r : Shape) (o : ℤ) (turn : Bool → Bool) → perform f p V Rattle.plan.specs.Effects.alike d.shape ≡ good r

@@ -1,7 +1,7 @@
 -- What an instruction's effect on a shape says of the values on the stack, and the arguments of a call.
 use Rattle.std.proofs.Common.{◌≡◌, ℕ, suc, ◌<◌, ◌≤◌, Bool, true, false, ◌&&◌, cond, ltb, leb, List, [], ◌∷◌, ◌++◌, map, reverse, length, get_or, take, drop, set, Some, None, Option, sym, refl, ap, ◌∙◌, subst, append_assoc, arith, take-append-drop, ltb-true, leb-true}
 use Rattle.bytecode.specs.declared.kind.Kind.{Kind}
-use Rattle.bytecode.specs.declared.kind.Kind.TheVariants.{Word, Reference as Ref}
+use Rattle.bytecode.specs.declared.kind.Kind.TheVariants.{Unknown, Word, Reference as Ref}
 use Rattle.bytecode.specs.Outcome.{good}
 use Rattle.heap.specs.Checked.{Reference, null}
 use Rattle.std.proofs.lemmas.List.{reverse-append, reverse-reverse, append-nil}
@@ -85,12 +85,13 @@ from_pool f p V c count k s r e = go (ltb c count) refl e
 pub record Loaded (i V : ℕ) (s r : Shape) : Type 0 where
   pub kind : Kind
   pub inside : i < V
-  pub there : get_or s.variables i None ≡ Some kind
+  pub known : kind ≡ Unknown → ⊥
+  pub there : get_or s.variables i Unknown ≡ kind
   pub after : r.stack ≡ kind ∷ s.stack
   pub low : length r.stack ≤ 32
   pub same : r.variables ≡ s.variables
 
-roomy : (f p : ℕ) (vs : List (Option Kind)) (st : List Kind) (r : Shape) → keeping f p vs (room f p st) ≡ good r
+roomy : (f p : ℕ) (vs st : List Kind) (r : Shape) → keeping f p vs (room f p st) ≡ good r
     → (r.stack ≡ st) × (length r.stack ≤ 32) × (r.variables ≡ vs)
 roomy f p vs st r e = go (leb (length st) 32) refl e
   where
@@ -104,22 +105,25 @@ roomy f p vs st r e = go (leb (length st) 32) refl e
 
 pub loads : (f p V i : ℕ) (s r : Shape) → perform f p V (load i) s ≡ good r → Loaded i V s r
 unfolding perform
-loads f p V i s r e = go (ltb i V) refl (get_or s.variables i None) refl e
+loads f p V i s r e = go (ltb i V) refl (get_or s.variables i Unknown) refl e
   where
-    go : (a : Bool) → ltb i V ≡ a → (o : Option Kind) → get_or s.variables i None ≡ o
-        → check a (21, f, p) (keeping f p s.variables (loaded f p o s.stack)) ≡ good r → Loaded i V s r
-    go false q o g h = cc
-    go true q None g h = cc
-    go true q (Some k) g h =
-        let t = roomy f p s.variables (k ∷ s.stack) r h in
-        record { kind = k; inside = ltb-true i V q; there = g; after = t.0; low = t.1; same = t.2 }
+    go : (a : Bool) → ltb i V ≡ a → (k : Kind) → get_or s.variables i Unknown ≡ k
+        → check a (21, f, p) (keeping f p s.variables (loaded f p k s.stack)) ≡ good r → Loaded i V s r
+    go false q k g h = cc
+    go true q Unknown g h = cc
+    go true q Word g h =
+        let t = roomy f p s.variables (Word ∷ s.stack) r h in
+        record { kind = Word; inside = ltb-true i V q; known = λ e. cc; there = g; after = t.0; low = t.1; same = t.2 }
+    go true q Ref g h =
+        let t = roomy f p s.variables (Ref ∷ s.stack) r h in
+        record { kind = Ref; inside = ltb-true i V q; known = λ e. cc; there = g; after = t.0; low = t.1; same = t.2 }
 
 -- the top of the stack was put into a variable
 pub record Stored (i V : ℕ) (s r : Shape) : Type 0 where
   pub kind : Kind
   pub inside : i < V
   pub before : s.stack ≡ kind ∷ r.stack
-  pub after : r.variables ≡ set s.variables i (Some kind)
+  pub after : r.variables ≡ set s.variables i kind
 
 pub stores : (f p V i : ℕ) (s r : Shape) → perform f p V (store i) s ≡ good r → Stored i V s r
 unfolding perform

@@ -2,6 +2,7 @@
 use Rattle.std.proofs.Common.{ℕ, zero, suc, ◌-◌, List, [], ◌∷◌, ◌++◌, length, map, replicate, Some, None, Option, sym, refl, ap, ◌∙◌, subst}
 use Rattle.std.proofs.lemmas.Option.{get_or_from_slice_get}
 use lib.ListN.{length-replicate}
+use Rattle.bytecode.specs.declared.kind.Kind.TheVariants.{Unknown}
 use Rattle.bytecode.specs.Program.{Program}
 use Rattle.host.specs.Hosts.{Host, Lawful}
 use Rattle.plan.specs.Programs.{function_at, variables_at, no_function}
@@ -30,7 +31,7 @@ module _ (P : Program) (plans : Plans) (ok : Accepted P plans) where
         fits_at P plans 0 0 g.0 (replicate (variables_at P 0) None) (entry_of (function_at P 0)) [] g.1
             (length-replicate {A = Option Value} (variables_at P 0) None ∙ ap (λ k. k.variables) e)
             (ok.fullest 0 ok.some).sound.begins refl
-            (subst (λ k. Holding (replicate (variables_at P 0) None) (map Some k ++ replicate (32 - length k) None)) (sym ok.plain)
+            (subst (λ k. Holding (replicate (variables_at P 0) None) (k ++ replicate (32 - length k) Unknown)) (sym ok.plain)
             (entry_holding [] (variables_at P 0) 32)),
         main,
       )

@@ -1,6 +1,6 @@
 -- Worked examples, computed by the definitions: plans by the judge, runs by the checked machine.
 use Rattle.std.specs.Prelude.{◌≡◌, ℕ, List, [], ◌∷◌, negsuc, Some, None}
-use Rattle.bytecode.specs.declared.kind.Kind.TheVariants.{Word, Reference}
+use Rattle.bytecode.specs.declared.kind.Kind.TheVariants.{Unknown, Word, Reference}
 use Rattle.bytecode.specs.declared.stop.Stop.TheVariants.{Divide, Cells}
 use Rattle.bytecode.specs.declared.instruction.Instruction.TheVariants.{Goto}
 use Rattle.bytecode.specs.Instructions.{instruction_of, target}
@@ -56,4 +56,4 @@ pub record Samples (product : ℕ) : Type 0 where
   pub none : room (single 0) ≡ 0
   pub empty : answer_of (main_of (0xBB ∷ 0x00 ∷ 0x57 ∷ 0x10 ∷ 0x00 ∷ 0xB0 ∷ [])) 0 9 ≡ ends 0 4
   -- variables (w, a) met by (w, w) leave (w, none)
-  pub meeting : merge (shaped [] (Some Word ∷ Some Reference ∷ [])) (shaped [] (Some Word ∷ Some Word ∷ [])) ≡ changed (shaped [] (Some Word ∷ None ∷ []))
+  pub meeting : merge (shaped [] (Word ∷ Reference ∷ [])) (shaped [] (Word ∷ Word ∷ [])) ≡ changed (shaped [] (Word ∷ Unknown ∷ []))

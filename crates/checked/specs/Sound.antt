@@ -1,6 +1,7 @@
 -- When a configuration is as the plans say: what holds from the start on and is kept by every step.
 use Rattle.std.specs.Prelude.{◌≡◌, ℕ, List, [], ◌∷◌, map, length, Some, None, Option, slice_index_or}
 use Rattle.bytecode.specs.declared.kind.Kind.{Kind}
+use Rattle.bytecode.specs.declared.kind.Kind.TheVariants.{Unknown}
 use Rattle.bytecode.specs.Program.{Program, Function}
 use Rattle.plan.specs.Programs.{nth, function_at}
 use Rattle.plan.specs.Shapes.{Shape}
@@ -14,12 +15,12 @@ HasKind k None = ⊥
 HasKind k (Some v) = kind_of v ≡ k
 
 -- a variable of a known kind is set, and has that kind
-abbrev pub Held : Option Kind → Option Value → Type 0
-Held None o = Unit {0}
-Held (Some k) o = HasKind k o
+abbrev pub Held : Kind → Option Value → Type 0
+Held Unknown o = Unit {0}
+Held k o = HasKind k o
 
-abbrev pub Holding : List (Option Value) → List (Option Kind) → Type 0
-Holding vs ks = (i : ℕ) → Held (slice_index_or ks i None) (variable vs i)
+abbrev pub Holding : List (Option Value) → List Kind → Type 0
+Holding vs ks = (i : ℕ) → Held (slice_index_or ks i Unknown) (variable vs i)
 
 -- ## Frames
 

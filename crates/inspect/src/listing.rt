@@ -21,22 +21,24 @@ fn instructions(rt: &HostRuntime, code: &[u8]) -> io::Result<()> {
 
 fn integers(rt: &HostRuntime, package: &Package) -> io::Result<()> {
     println!(rt; "integers {}", package.integers.len())?;
-    for (i, bytes) in package.integers.iter().enumerate() {
-        let integer = i32::from_be_bytes(*bytes);
+    // By number: what an integer is, and what the kinds below are, the reader's clauses say of its methods.
+    for i in 0..package.integers.len() {
+        let integer = package.integer(i).cast_signed();
         println!(rt; "  {i} {integer}")?;
     }
     Ok(())
 }
 
-// The kinds of the arguments and of the result, by the letters that stand in the sheet.
+// The kinds of the arguments and of the result.
 fn kinds(rt: &HostRuntime, signature: &Signature) -> io::Result<()> {
-    if signature.argument_letters.is_empty() {
+    let count = signature.argument_count();
+    if count == 0 {
         print!(rt; ".")?;
     }
-    for letter in signature.argument_letters {
-        print!(rt; "{}", *letter as char)?;
+    for argument in 0..count {
+        print!(rt; "{}", signature.argument_kind(argument))?;
     }
-    println!(rt; " -> {}", signature.result_letter as char)
+    println!(rt; " -> {}", signature.result_kind())
 }
 
 fn functions(rt: &HostRuntime, package: &Package) -> io::Result<()> {

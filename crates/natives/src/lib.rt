@@ -43,7 +43,7 @@ fn argument(kind: Kind, slot: u64) -> Argument
     match kind {
         // A cast must lose nothing, and no method takes the low half of a number.
         Kind::Word => Argument::Word((slot % WORDS) as u32),
-        Kind::Reference => Argument::Reference { null: slot == 0 },
+        Kind::Unknown | Kind::Reference => Argument::Reference { null: slot == 0 },
     }
 }
 

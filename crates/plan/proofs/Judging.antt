@@ -1,7 +1,8 @@
 -- The judgement of a program: accepted if and only if every function has a good plan, and then its tables are the fullest plans.
-use Rattle.std.proofs.Common.{◌≡◌, ℕ, zero, suc, ◌+◌, ◌-◌, ◌*◌, ◌<◌, ◌≤◌, Bool, true, false, ◌⊎◌, List, [], ◌∷◌, ◌++◌, map, length, get_or, replicate, Some, None, Option, sym, refl, ap, ◌∙◌, subst, inl, inr, true≢false, mul-le-mul_left, arith, length-append}
-use lib.ListN.{length-map, length-replicate}
+use Rattle.std.proofs.Common.{◌≡◌, ℕ, zero, suc, ◌+◌, ◌-◌, ◌*◌, ◌<◌, ◌≤◌, Bool, true, false, ◌⊎◌, List, [], ◌∷◌, ◌++◌, length, get_or, replicate, Some, None, Option, sym, refl, ap, ◌∙◌, subst, inl, inr, true≢false, mul-le-mul_left, arith, length-append}
+use lib.ListN.{length-replicate}
 use Rattle.bytecode.specs.declared.kind.Kind.{Kind}
+use Rattle.bytecode.specs.declared.kind.Kind.TheVariants.{Unknown}
 use Rattle.bytecode.specs.Instructions.{starts_of}
 use Rattle.bytecode.specs.Outcome.{Fault, Out, bad, good, bind}
 use Rattle.bytecode.specs.Program.{Function, Program}
@@ -18,7 +19,7 @@ use Rattle.plan.proofs.Sweeping.{Finished, sweep_fuel, sweep_fullest}
 
 -- ## The entry shape
 
-past_append : (ks : List (Option Kind)) (n i : ℕ) → length ks ≤ i → get_or (ks ++ replicate n None) i None ≡ None
+past_append : (ks : List Kind) (n i : ℕ) → length ks ≤ i → get_or (ks ++ replicate n Unknown) i Unknown ≡ Unknown
 past_append [] zero i h = refl
 past_append [] (suc n) zero h = refl
 past_append [] (suc n) (suc i) h = past_append [] n i (omega arith)
@@ -29,14 +30,15 @@ pub entry_sized : (g : Function) → FormedFunction g → Sized g.variables (ent
 entry_sized g h =
     record {
       low = omega arith;
-      long = simp (length-append, length-map, length-replicate) (omega (arith, h.counted, h.few));
-      unused = λ i l.
-          past_append (map Some g.signature.arguments) (32 - length g.signature.arguments) i
-          (omega (arith, length-map g.signature.arguments Some, h.counted, l));
+      kinds = tt;
+      long =
+          length-append g.signature.arguments (replicate (32 - length g.signature.arguments) Unknown) ∙
+          (omega (arith, length-replicate (32 - length g.signature.arguments) Unknown, h.counted, h.few));
+      unused = λ i l. past_append g.signature.arguments (32 - length g.signature.arguments) i (omega (arith, h.counted, l));
     }
 
 no_function_formed : FormedFunction no_function
-no_function_formed = record { counted = omega arith; few = omega arith }
+no_function_formed = record { signature = record { arguments = tt; result = tt }; counted = omega arith; few = omega arith }
 
 -- the function of a number is in the pool, or none
 pub function_nth : (gs : List Function) (f : ℕ) → (nth gs f ≡ Some (get_or gs f no_function)) ⊎ (get_or gs f no_function ≡ no_function)
@@ -78,7 +80,7 @@ sweep_swept P formed f = go (starts_of f (code_at P f)) refl (starts_marked (cod
     go (bad x) e m = undecoded_planless P f x e
     go (good marks) e m =
         let there : starts_at P f ≡ marks = ap marks_in e in
-        swept marks there m (sweep_marks P f marks) (sweep_fullest P f marks there (entry_sized (function_at P f) (formed_at P formed f)))
+        swept marks there m (sweep_marks P f marks) (sweep_fullest P formed f marks there (entry_sized (function_at P f) (formed_at P formed f)))
 
 -- ## Functions in order
 
@@ -263,7 +265,7 @@ module _ (P : Program) where
 
 pub takes_suffice : TakesSuffice
 takes_suffice P formed f marks e k l =
-    sweep_fuel P f marks (ap marks_in e) (entry_sized (function_at P f) (formed_at P formed f)) k l
+    sweep_fuel P formed f marks (ap marks_in e) (entry_sized (function_at P f) (formed_at P formed f)) k l
 
 pub starts_stand : StartsStand
 starts_stand f code marks e = on_good (Unit {0}) (Marked code) (starts_of f code) marks e (starts_marked code f)
@@ -293,3 +295,17 @@ most_from_bytes P formed (suc n) f = let ih = most_from_bytes P formed n (suc f)
 
 pub takes_within : (k : ℕ) → 135168 ≤ k → TakesWithin k
 takes_within k l P formed h = omega (arith, most_from_bytes P formed (length P.functions) 0)
+
+-- ## The parts of the judgement
+
+pub sweep_decoded : (P : Program) (f : ℕ) (marks : List Bool) → starts_of f (code_at P f) ≡ good marks → sweep_function P f ≡ sweep_marks P f marks
+unfolding sweep_function
+sweep_decoded P f marks e = ap (λ o. bind o (sweep_marks P f)) e
+
+pub judge_decoded : (P : Program) (starts : List (List Bool)) → decode_all P ≡ good starts → judge P ≡ sweep_all P
+unfolding judge
+judge_decoded P starts e = ap (λ o. bind o (λ s. sweep_all P)) e
+
+pub judge_undecoded : (P : Program) (e : Fault) → decode_all P ≡ bad e → judge P ≡ bad e
+unfolding judge
+judge_undecoded P e d = ap (λ o. bind o (λ s. sweep_all P)) d

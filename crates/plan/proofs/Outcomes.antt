@@ -19,5 +19,8 @@ on_map E P Q (good a) k h = k a h
 pub on_good : {A : Type 0} (E : Type 0) (P : A → Type 0) (r : Out A) (a : A) → r ≡ good a → On E P r → P a
 on_good E P r a e h = subst (On E P) e h
 
+pub on_bad : {A : Type 0} (E : Type 0) (P : A → Type 0) (r : Out A) (e : Fault) → r ≡ bad e → On E P r → E
+on_bad E P r e d h = subst (On E P) d h
+
 pub good_bad : {A : Type 0} (a : A) (e : Fault) → good a ≡ bad e → ⊥
 good_bad {A} a e h = subst (On ⊥ (λ b. Unit {0})) h tt

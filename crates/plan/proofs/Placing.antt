@@ -1,6 +1,7 @@
 -- Every fault of a function's decoding or sweep carries the function's number.
 use Rattle.std.proofs.Common.{◌≡◌, ℕ, zero, suc, ◌+◌, Bool, true, false, cond, ltb, leb, List, [], ◌∷◌, ◌++◌, map, length, get_or, take, drop, set, replicate, Some, None, Option, refl}
 use Rattle.bytecode.specs.declared.kind.Kind.{Kind}
+use Rattle.bytecode.specs.declared.kind.Kind.TheVariants.{Unknown, Word, Reference}
 use Rattle.bytecode.specs.declared.instruction.Instruction.{Instruction}
 use Rattle.bytecode.specs.Instructions.{size_of, decode_at, onward, walk, starts_of}
 use Rattle.bytecode.specs.Outcome.{Out, bad, good, bind}
@@ -52,15 +53,16 @@ module _ (f : ℕ) where
     in_returned k (l ∷ []) = in_check (eq_kind l k) 20 p (good []) tt
     in_returned k (l ∷ m ∷ st) = refl
 
-    in_loaded : (k : Option Kind) (st : List Kind) → InFunction (loaded f p k st)
-    in_loaded None st = refl
-    in_loaded (Some k) st = in_room (k ∷ st)
+    in_loaded : (k : Kind) (st : List Kind) → InFunction (loaded f p k st)
+    in_loaded Unknown st = refl
+    in_loaded Word st = in_room (Word ∷ st)
+    in_loaded Reference st = in_room (Reference ∷ st)
 
-    in_stored : (i : ℕ) (vs : List (Option Kind)) (st : List Kind) → InFunction (stored f p i vs st)
+    in_stored : (i : ℕ) (vs st : List Kind) → InFunction (stored f p i vs st)
     in_stored i vs [] = refl
     in_stored i vs (k ∷ st) = tt
 
-    in_keeping : (vs : List (Option Kind)) (r : Out (List Kind)) → InFunction r → InFunction (keeping f p vs r)
+    in_keeping : (vs : List Kind) (r : Out (List Kind)) → InFunction r → InFunction (keeping f p vs r)
     in_keeping vs r h = in_bind r (λ st. good (record { stack = st; variables = vs })) h (λ st. tt)
 
     in_replace : (taken left st : List Kind) → InFunction (replace f p taken left st)
@@ -72,8 +74,8 @@ module _ (f : ℕ) where
     unfolding perform
     in_perform V (fixed taken left) s = in_keeping s.variables (replace f p taken left s.stack) (in_replace taken left s.stack)
     in_perform V (load i) s =
-        in_check (ltb i V) 21 p (keeping f p s.variables (loaded f p (get_or s.variables i None) s.stack))
-        (in_keeping s.variables (loaded f p (get_or s.variables i None) s.stack) (in_loaded (get_or s.variables i None) s.stack))
+        in_check (ltb i V) 21 p (keeping f p s.variables (loaded f p (get_or s.variables i Unknown) s.stack))
+        (in_keeping s.variables (loaded f p (get_or s.variables i Unknown) s.stack) (in_loaded (get_or s.variables i Unknown) s.stack))
     in_perform V (store i) s = in_check (ltb i V) 21 p (stored f p i s.variables s.stack) (in_stored i s.variables s.stack)
     in_perform V pop s = in_keeping s.variables (popped f p s.stack) (in_popped s.stack)
     in_perform V dup s = in_keeping s.variables (doubled f p s.stack) (in_doubled s.stack)

@@ -1,7 +1,7 @@
 -- What each instruction takes from the operand stack and leaves there, and the checks that it must pass.
 use Rattle.std.specs.Prelude.{ℕ, Bool, true, false, cond, List, [], ◌∷◌, ◌++◌, reverse, length, take, drop, Some, None, Option, nat_le, nat_lt, slice_index_or, slice_set}
 use Rattle.bytecode.specs.declared.kind.Kind.{Kind}
-use Rattle.bytecode.specs.declared.kind.Kind.TheVariants.{Word, Reference}
+use Rattle.bytecode.specs.declared.kind.Kind.TheVariants.{Unknown, Word, Reference}
 use Rattle.bytecode.specs.declared.instruction.Instruction.{Instruction}
 use Rattle.bytecode.specs.declared.instruction.Instruction.TheVariants.{Nop, Pop, Dup, Swap, AconstNull, Aldc, Bipush, Ildc, Vload, Vstore, Binary, IfCmpeq, IfCmpne, IfIcmp, Goto, Invokestatic, Invokenative, Return, New, Newarray, Arraylength, Aaddf, Aadds, Imload, Cmload, Amload, Imstore, Cmstore, Amstore}
 use Rattle.bytecode.specs.Outcome.{Fault, Out, bad, good, bind}
@@ -115,22 +115,22 @@ module _ (f p : ℕ) where
   returned k (l ∷ []) = check (eq_kind l k) (20, f, p) (good [])
   returned k st = bad (25, f, p)
 
-  abbrev pub loaded : Option Kind → List Kind → Out (List Kind)
-  loaded None st = bad (21, f, p)
-  loaded (Some k) st = room (k ∷ st)
+  abbrev pub loaded : Kind → List Kind → Out (List Kind)
+  loaded Unknown st = bad (21, f, p)
+  loaded k st = room (k ∷ st)
 
-  abbrev pub stored : ℕ → List (Option Kind) → List Kind → Out Shape
+  abbrev pub stored : ℕ → List Kind → List Kind → Out Shape
   stored i vs [] = bad (18, f, p)
-  stored i vs (k ∷ st) = good (record { stack = st; variables = slice_set vs i (Some k) })
+  stored i vs (k ∷ st) = good (record { stack = st; variables = slice_set vs i k })
 
   -- another stack, the same variables
-  abbrev pub keeping : List (Option Kind) → Out (List Kind) → Out Shape
+  abbrev pub keeping : List Kind → Out (List Kind) → Out Shape
   keeping vs r = bind r (λ st. good (record { stack = st; variables = vs }))
 
   -- an act in a function of V variables
   unfoldable pub perform : ℕ → Act → Shape → Out Shape
   perform V (fixed taken left) s = keeping s.variables (replace taken left s.stack)
-  perform V (load i) s = check (nat_lt i V) (21, f, p) (keeping s.variables (loaded (slice_index_or s.variables i None) s.stack))
+  perform V (load i) s = check (nat_lt i V) (21, f, p) (keeping s.variables (loaded (slice_index_or s.variables i Unknown) s.stack))
   perform V (store i) s = check (nat_lt i V) (21, f, p) (stored i s.variables s.stack)
   perform V pop s = keeping s.variables (popped s.stack)
   perform V dup s = keeping s.variables (doubled s.stack)

@@ -1,5 +1,6 @@
 -- Plans: shapes for some places of a function's code. Which plans are good, and which is the fullest.
-use Rattle.std.specs.Prelude.{◌≡◌, ℕ, ◌+◌, ◌-◌, Bool, true, false, List, [], ◌∷◌, ◌++◌, map, length, replicate, Some, None, Option, slice_index_or}
+use Rattle.std.specs.Prelude.{◌≡◌, ℕ, ◌+◌, ◌-◌, Bool, true, false, List, [], ◌∷◌, ◌++◌, length, replicate, Some, None, Option, slice_index_or}
+use Rattle.bytecode.specs.declared.kind.Kind.TheVariants.{Unknown}
 use Rattle.bytecode.specs.declared.instruction.Instruction.{Instruction}
 use Rattle.bytecode.specs.declared.instruction.Instruction.TheVariants.{IfCmpeq, IfCmpne, IfIcmp, Goto, Return}
 use Rattle.bytecode.specs.Instructions.{size_of, decode_at, target, starts_of}
@@ -61,7 +62,7 @@ Lands x plan (q ∷ qs) = Hits x (shape_at plan q) × Lands x plan qs
 
 -- the shape at a function's entry: an empty stack, the arguments as the sheet has them, and none elsewhere
 abbrev pub entry_of : Function → Shape
-entry_of g = record { stack = []; variables = map Some g.signature.arguments ++ replicate (32 - length g.signature.arguments) None }
+entry_of g = record { stack = []; variables = g.signature.arguments ++ replicate (32 - length g.signature.arguments) Unknown }
 
 -- with the shape s at p: an instruction stands there, passes its checks, and its result reaches every place that it can go on to
 pub record Passes (P : Program) (f : ℕ) (plan : Plan) (p : ℕ) (s : Shape) : Type 0 where

@@ -1,7 +1,8 @@
 -- Parts of a program, and what holds of every program that a package can hold.
-use Rattle.std.specs.Prelude.{◌≡◌, ℕ, ◌≤◌, List, [], length, Some, slice_index_or}
-use Rattle.bytecode.specs.declared.kind.Kind.TheVariants.{Word}
-use Rattle.bytecode.specs.Program.{Function, Program}
+use Rattle.std.specs.Prelude.{◌≡◌, ℕ, ◌≤◌, List, [], ◌∷◌, length, Some, slice_index_or}
+use Rattle.bytecode.specs.declared.kind.Kind.{Kind}
+use Rattle.bytecode.specs.declared.kind.Kind.TheVariants.{Unknown, Word, Reference}
+use Rattle.bytecode.specs.Program.{Signature, Function, Native, Program}
 -- the entry of a pool with this index, if there is one
 pub use Rattle.std.specs.List.{slice_get as nth}
 
@@ -21,10 +22,27 @@ variables_at P f = (function_at P f).variables
 
 -- ## Programs as packages hold them
 
+-- a word or a reference
+abbrev pub Known : Kind → Type 0
+Known Unknown = ⊥
+Known Word = Unit {0}
+Known Reference = Unit {0}
+
+abbrev pub AllKnown : List Kind → Type 0
+AllKnown [] = Unit {0}
+AllKnown (k ∷ ks) = Known k × AllKnown ks
+
+-- a sheet knows the kind of each argument and of the result
+pub record KnownSignature (s : Signature) : Type 0 where
+  pub arguments : AllKnown s.arguments
+  pub result : Known s.result
+
 -- at most 32 variables, the arguments among them
 pub record FormedFunction (g : Function) : Type 0 where
+  pub signature : KnownSignature g.signature
   pub counted : length g.signature.arguments ≤ g.variables
   pub few : g.variables ≤ 32
 
 pub record WellFormed (P : Program) : Type 0 where
   pub functions : (f : ℕ) (g : Function) → nth P.functions f ≡ Some g → FormedFunction g
+  pub natives : (n : ℕ) (g : Native) → nth P.natives n ≡ Some g → KnownSignature g.signature

@@ -1,7 +1,7 @@
 -- Programs whose judgement is computed.
-use Rattle.std.specs.Prelude.{◌≡◌, ℕ, ◌-◌, List, [], ◌∷◌, ◌++◌, length, replicate, Some, None, Option}
+use Rattle.std.specs.Prelude.{◌≡◌, ℕ, ◌-◌, List, [], ◌∷◌, ◌++◌, length, replicate}
 use Rattle.bytecode.specs.declared.kind.Kind.{Kind}
-use Rattle.bytecode.specs.declared.kind.Kind.TheVariants.{Word, Reference}
+use Rattle.bytecode.specs.declared.kind.Kind.TheVariants.{Unknown, Word, Reference}
 use Rattle.bytecode.specs.Outcome.{bad, good}
 use Rattle.bytecode.specs.Program.{Function, Program}
 use Rattle.plan.specs.Shapes.{Shape, changed, merge}
@@ -19,8 +19,8 @@ abbrev pub main_of : List ℕ → Program
 main_of code = program_of (giving [] 0 code ∷ [])
 
 -- a stack, top first, and the first variables
-abbrev pub shaped : List Kind → List (Option Kind) → Shape
-shaped stack variables = record { stack = stack; variables = variables ++ replicate (32 - length variables) None }
+abbrev pub shaped : List Kind → List Kind → Shape
+shaped stack variables = record { stack = stack; variables = variables ++ replicate (32 - length variables) Unknown }
 
 -- no variable is known
 abbrev pub stacked : List Kind → Cell
@@ -31,7 +31,7 @@ pub record Samples (takes : ℕ) : Type 0 where
   pub product : judge (main_of (0x10 ∷ 0x06 ∷ 0x10 ∷ 0x07 ∷ 0x68 ∷ 0xB0 ∷ [])) ≡
       good ((stacked [] ∷ off ∷ stacked (Word ∷ []) ∷ off ∷ stacked (Word ∷ Word ∷ []) ∷ stacked (Word ∷ []) ∷ []) ∷ [], takes)
   -- variables (w, a) met by (w, w)
-  pub meeting : merge (shaped [] (Some Word ∷ Some Reference ∷ [])) (shaped [] (Some Word ∷ Some Word ∷ [])) ≡ changed (shaped [] (Some Word ∷ None ∷ []))
+  pub meeting : merge (shaped [] (Word ∷ Reference ∷ [])) (shaped [] (Word ∷ Word ∷ [])) ≡ changed (shaped [] (Word ∷ Unknown ∷ []))
   -- nop alone
   pub nop : judge (main_of (0x00 ∷ [])) ≡ bad (23, 0, 0)
   -- goto to itself

@@ -10,16 +10,13 @@ use std::io;
 use verifier::program::{Program, check};
 
 // The first kinds of a record, in which both lists are arrays.
-fn print_kinds(rt: &HostRuntime, kinds: &[Option<Kind>; 32], count: usize) -> io::Result<()> {
+fn print_kinds(rt: &HostRuntime, kinds: &[Kind; 32], count: usize) -> io::Result<()> {
     if count == 0 {
         return print!(rt; " .");
     }
     print!(rt; " ")?;
     for kind in kinds.iter().take(count) {
-        match kind {
-            Some(kind) => print!(rt; "{kind}")?,
-            None => print!(rt; "-")?,
-        }
+        print!(rt; "{kind}")?;
     }
     Ok(())
 }

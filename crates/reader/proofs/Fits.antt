@@ -4,15 +4,25 @@ use Rattle.std.proofs.lemmas.List.{length-take-le, length-map, get_or-take}
 use Rattle.std.proofs.Math.ListN.{get_or-map}
 use Rattle.std.proofs.ByRecursion.{All-from_get_or}
 use Rattle.std.specs.List.{AllByRecursion}
+use Rattle.bytecode.specs.declared.kind.Kind.TheVariants.{Word, Reference}
 use Rattle.reader.specs.Layout.{kind_of}
 use Rattle.reader.specs.Entries.{integer_of, function_entry, function_of, native_entry, native_of, FunctionFits, FunctionLettered, NativeFits, NativeLettered}
-use Rattle.reader.specs.View.{program_of, no_function, no_native, function_in, FunctionFormed, NativeFormed, Fitting}
+use Rattle.reader.specs.View.{program_of, no_function, no_native, function_in, KnownKind, FunctionFormed, NativeFormed, Fitting}
 use Rattle.reader.specs.declared.package.Package.{Package}
 use Rattle.reader.specs.declared.package.Function.{Function}
 use Rattle.reader.specs.declared.package.Native.{Native}
 use Rattle.reader.proofs.Joining.{code_same}
 use Rattle.reader.proofs.Places.{mapped_length, front_at_lem, all_at, entry_at}
 use Rattle.reader.proofs.Turns.{no_function as absent_function, no_native as absent_native}
+
+-- ## Every letter tells a kind
+
+letter_known : (x : ℕ) → KnownKind (kind_of x)
+letter_known x = elim (eqb x 0x77) as (λ b. KnownKind (cond b Word Reference)) [ true ↦ tt | false ↦ tt ]
+
+letters_known : (xs : List ℕ) → AllByRecursion KnownKind (map kind_of xs)
+letters_known [] = tt
+letters_known (x ∷ xs) = (letter_known x, letters_known xs)
 
 -- ## Functions and natives within the limits
 
@@ -25,12 +35,14 @@ function_formed f h k =
       few = omega (arith, n, h.few);
       narrow = h.narrow;
       ordered = omega (arith, m, h.ordered);
+      takes = letters_known f.signature.argument_letters.now;
+      gives = letter_known f.signature.result_letter;
     }
 
 native_formed : (f : Native) → NativeFits f.entry → NativeLettered f → NativeFormed (native_of f)
 native_formed f h k =
     let m : length (map kind_of f.signature.argument_letters.now) ≡ f.entry.arguments = length-map f.signature.argument_letters.now kind_of ∙ k in
-    record { few = omega (arith, m, h) }
+    record { few = omega (arith, m, h); takes = letters_known f.signature.argument_letters.now; gives = letter_known f.signature.result_letter }
 
 module _ (p : Package) where
   function_at : (i : ℕ) → i < p.function_count → FunctionFormed (function_in (program_of p) i)

@@ -110,6 +110,10 @@ fours_taken xs words n w l =
     let k : n ≤ length xs / 4 = omega arith in
     ap (take n) w ∙ chunks_taken n (length xs / 4) xs k
 
+pub fours_long : (n : ℕ) (xs : List ℕ) → length (first_chunks 4 n xs) ≡ n
+fours_long zero xs = refl
+fours_long (suc n) xs = ap suc (fours_long n (drop 4 xs))
+
 -- four bytes are a word
 taken_small : (n : ℕ) (xs : List ℕ) (j : ℕ) → ((i : ℕ) → get_or xs i 0 < 256) → get_or (take n xs) j 0 < 256
 taken_small zero xs j h = let l : 0 < 256 = omega arith in l

@@ -1,5 +1,5 @@
 -- What the entries of a package stand for, and what is known of them.
-use Rattle.std.specs.Prelude.{◌≡◌, ℕ, ◌+◌, ◌-◌, ◌^◌, ◌<◌, ◌≤◌, List, [], map, length, take, slice_index_or}
+use Rattle.std.specs.Prelude.{◌≡◌, ℕ, ◌+◌, ◌-◌, ◌*◌, ◌^◌, ◌<◌, ◌≤◌, List, [], map, length, take, slice_index_or}
 use Rattle.std.specs.List.{All}
 use Rattle.bytecode.specs.Program as program
 use Rattle.reader.specs.declared.package.Signature.{Signature}
@@ -46,9 +46,10 @@ native_entry f = f.entry
 
 -- ## What is known of them
 
--- a package of at most 16,384 bytes, and no more strings; integers are words; strings end with 0
+-- a package of at most 16,384 bytes, with the integers and the strings among them; integers are words; strings end with 0
 pub record FrontFits (bs : List ℕ) (integers : List (List ℕ)) (strings : List ℕ) : Type 0 where
   pub short : length bs ≤ 16384
+  pub integers_inside : 4 * length integers ≤ length bs
   pub words : (k : ℕ) → integer_of (slice_index_or integers k []) < 2 ^ 32
   pub strings_inside : length strings ≤ length bs
   pub strings_end : 0 < length strings → byte strings (length strings - 1) ≡ 0

@@ -1,7 +1,8 @@
 -- What a package that was read stands for, and what is known of it.
 use Rattle.std.specs.Prelude.{◌≡◌, ℕ, ◌+◌, ◌-◌, ◌^◌, ◌<◌, ◌≤◌, List, [], ◌∷◌, map, length, take, slice_index, slice_index_or}
 use Rattle.std.specs.List.{AllByRecursion}
-use Rattle.bytecode.specs.declared.kind.Kind.TheVariants.{Word}
+use Rattle.bytecode.specs.declared.kind.Kind.{Kind}
+use Rattle.bytecode.specs.declared.kind.Kind.TheVariants.{Unknown, Word, Reference}
 use Rattle.bytecode.specs.Program as program
 use Rattle.bytecode.specs.Program.{Program}
 use Rattle.reader.specs.declared.package.Package.{Package}
@@ -43,15 +44,25 @@ code_size (f ∷ fs) = length f.code + code_size fs
 
 -- ## What is known of the program
 
+-- a kind that a letter can tell
+abbrev pub KnownKind : Kind → Type 0
+KnownKind Unknown = ⊥
+KnownKind Word = Unit {0}
+KnownKind Reference = Unit {0}
+
 -- a function of the program within the limits
 pub record FunctionFormed (g : program.Function) : Type 0 where
   pub some : 0 < length g.code
   pub few : length g.code ≤ 4096
   pub narrow : g.variables ≤ 32
   pub ordered : length g.signature.arguments ≤ g.variables
+  pub takes : AllByRecursion KnownKind g.signature.arguments
+  pub gives : KnownKind g.signature.result
 
 pub record NativeFormed (g : program.Native) : Type 0 where
   pub few : length g.signature.arguments ≤ 4
+  pub takes : AllByRecursion KnownKind g.signature.arguments
+  pub gives : KnownKind g.signature.result
 
 -- what every package keeps to: main takes nothing and gives a word
 pub record Fitting (p : Package) : Type 0 where

@@ -1,6 +1,6 @@
 // A package that was read.
 ghost use Rattle.std.specs.Prelude.{◌≡◌, ◌+◌, ◌<◌, ◌≤◌, length, map, take, slice_index_or};
-ghost use Rattle.bytecode.specs.declared.kind.Kind.TheVariants.{Word};
+ghost use Rattle.bytecode.specs.declared.kind.Kind.TheVariants.{Unknown};
 ghost use Rattle.reader.specs.Layout.{kind_of as kind_told};
 ghost use Rattle.reader.specs.Entries.{FrontFits, FunctionsKnown, NativesKnown};
 
@@ -52,7 +52,7 @@ impl<'a> Signature<'a> {
     /// The kind of an argument.
     pub fn argument_kind(&self, argument: usize) -> Kind
         requires { argument < length (signature_of self.now).arguments }
-        ensures { result ≡ slice_index_or (signature_of self.now).arguments argument Word }
+        ensures { result ≡ slice_index_or (signature_of self.now).arguments argument Unknown }
     {
         kind_of(self.argument_letters[argument])
     }
@@ -122,10 +122,10 @@ pub struct Package<'a> {
     pub integers: &'a [[u8; 4]],
     pub strings: &'a [u8],
     pub code_size: usize,
-    pub(crate) function_count: usize,
-    pub(crate) native_count: usize,
-    pub(crate) functions: [Function<'a>; FUNCTION_LIMIT],
-    pub(crate) natives: [Native<'a>; NATIVE_LIMIT],
+    pub function_count: usize,
+    pub native_count: usize,
+    pub functions: [Function<'a>; FUNCTION_LIMIT],
+    pub natives: [Native<'a>; NATIVE_LIMIT],
     pub ghost function_room: { length functions ≡ 64 },
     pub ghost native_room: { length natives ≡ 32 },
     pub ghost some_functions: { 0 < function_count },

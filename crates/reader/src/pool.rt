@@ -22,6 +22,7 @@ const NATIVE_ARGUMENT_LIMIT: u16 = 4;
 fn fours<'a>(bytes: &'a [u8], count: usize) -> &'a [[u8; 4]]
     requires { 4 * count ≤ length bytes.now }
     ensures met { result.now ≡ first_chunks 4 count bytes.now }
+    ensures few { length result.now ≡ count }
     ensures words { (k : ℕ) → integer_of (slice_index_or result.now k []) < 2 ^ 32 }
 {
     let (words, _) = bytes.as_chunks::<4>();
@@ -35,6 +36,7 @@ pub(crate) fn read_integers<'a>(
 ) -> Result<&'a [[u8; 4]], Refusal>
     ensures met { integers_at cursor.old.bytes.now count cursor.old.offset ≡ told (λ words. record { value = map integer_of words.now; after = cursor.new.offset }) result }
     ensures lent { cursor.new.bytes.now ≡ cursor.old.bytes.now }
+    ensures inside { IfOk result (λ words. 4 * length words.now ≤ length cursor.old.bytes.now) }
     ensures words { IfOk result (λ words. (k : ℕ) → integer_of (slice_index_or words.now k []) < 2 ^ 32) }
 {
     let rest = cursor.rest();

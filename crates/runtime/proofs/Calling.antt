@@ -7,7 +7,7 @@ use lib.ListN.{length-map, length-replicate, length-reverse}
 use borrow.Author.Tests.{eqb-false}
 use Rattle.std.proofs.lemmas.List.{append-nil}
 use Rattle.bytecode.specs.declared.kind.Kind.{Kind}
-use Rattle.bytecode.specs.declared.kind.Kind.TheVariants.{Word, Reference as Ref}
+use Rattle.bytecode.specs.declared.kind.Kind.TheVariants.{Unknown, Word, Reference as Ref}
 use Rattle.bytecode.specs.declared.stop.Stop.TheVariants.{Calls, Native as NoNative}
 use Rattle.bytecode.specs.Program.{Program, Function, Native}
 use Rattle.heap.specs.Checked.{Heap, Reference, null, text, block}
@@ -320,6 +320,7 @@ module _ (P : Program) (sizes : Sizes) {S : Type 0} (host : Host S) (lawful : La
       let a : nth (references args) i ≡ Some (reference_of x.0) = ap (λ k. nth k i) numbers_are ∙ (slice_get-map reference_of ns i ∙ ap (option_map reference_of) x.1) in
       subst₂ (λ o w. Same (Represented P sizes) (checked.found o u (λ z. resume f q vs (reference z ∷ left) rest h u)) (lifted u (handed l q (first_argument l n) w))) (sym a) (sym x.1)
       (answer u (reference (reference_of x.0)) x.0 (refl, known_nth l.storage.count ns i x.0 numbers_known_are x.1))
+  reply_same u (Suits.stop {k = Unknown}) e = stop
   reply_same u (Suits.stop {k = Word}) e = stop
   reply_same u (Suits.stop {k = Ref}) e = stop
 

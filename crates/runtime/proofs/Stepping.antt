@@ -3,7 +3,7 @@ use Rattle.std.proofs.Common.{◌≡◌, ℕ, ◌+◌, ◌-◌, ◌^◌, ◌<◌
 use lib.ListN.{length-map}
 use Rattle.std.proofs.lemmas.Option.{get_or_from_slice_get}
 use Rattle.bytecode.specs.declared.kind.Kind.{Kind}
-use Rattle.bytecode.specs.declared.kind.Kind.TheVariants.{Word, Reference as Ref}
+use Rattle.bytecode.specs.declared.kind.Kind.TheVariants.{Unknown, Word, Reference as Ref}
 use Rattle.bytecode.specs.declared.instruction.Instruction.{Instruction}
 use Rattle.bytecode.specs.declared.instruction.Instruction.TheVariants.{Nop, Pop, Dup, Swap, AconstNull, Aldc, Bipush, Ildc, Vload, Vstore, Binary, IfCmpeq, IfCmpne, IfIcmp, Goto, Invokestatic, Invokenative, Return, New, Newarray, Arraylength, Aaddf, Aadds, Imload, Cmload, Amload, Imstore, Cmstore, Amstore}
 use Rattle.bytecode.specs.Instructions.{size_of, decode_at, target}
@@ -160,6 +160,7 @@ module _ (P : Program) (plans : Plans) (ok : Accepted P plans) (small : Small P)
           where
             kind : (m : Kind) → (function_at P f).signature.result ≡ m → (t : List Value) → st ≡ t → Kinded t (m ∷ [])
                 → Same R (only_value t s (λ v. cond (is_kind d.self.signature.result v) (return v rest h s) (breaks s))) (lifted s (returned l (Some d.self)))
+            kind Unknown e t eq k = elim k [ ]
             kind Word e t eq (words {n} bare) = only (word n) eq (sym e)
             kind Ref e t eq (refs {r = a} bare) = only (reference a) eq (sym e)
 
@@ -210,7 +211,7 @@ module _ (P : Program) (plans : Plans) (ok : Accepted P plans) (small : Small P)
         (get_or_from_slice_get P.integers c n.0 0 n.1, small.integers c n.0 n.1))
     act_same (Vload i) x e w =
         let y = loads f p (variables_at P f) i d.shape x e in
-        let v = held_value y.kind (get_or vs i None) (subst (λ k. Held k (get_or vs i None)) y.there (d.holding i)) in
+        let v = held_value y.kind (get_or vs i None) y.known (subst (λ k. Held k (get_or vs i None)) y.there (d.holding i)) in
         let self = is_function P plans ok f d.self d.known in
         let n : i < length vs = (let a = y.inside in let b = d.sized in let c = ap (λ g. g.variables) self in omega arith) in
         load_same P sizes f p vs rest h l s room st r (spare y.kind x y.after y.low) (p + 2) i v.0 n v.1

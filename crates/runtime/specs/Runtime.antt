@@ -2,7 +2,7 @@
 -- blocks lie in storage. A word is its 32 bits, a reference its number.
 use Rattle.std.specs.Prelude.{ℕ, zero, suc, ◌+◌, ◌-◌, ◌%◌, ◌^◌, Bool, true, false, cond, not, List, [], ◌∷◌, length, ℤ, Some, None, Option, ◌==◌, nat_le, nat_lt, slice_index, slice_index_or, slice_set}
 use Rattle.bytecode.specs.declared.kind.Kind.{Kind}
-use Rattle.bytecode.specs.declared.kind.Kind.TheVariants.{Word, Reference as Ref}
+use Rattle.bytecode.specs.declared.kind.Kind.TheVariants.{Unknown, Word, Reference as Ref}
 use Rattle.bytecode.specs.declared.stop.Stop.{Stop}
 use Rattle.bytecode.specs.declared.stop.Stop.TheVariants.{Calls, Native as NoNative, Host as ByHost}
 use Rattle.bytecode.specs.declared.instruction.Instruction.{Instruction}
@@ -175,6 +175,7 @@ exec P Amstore q l =
 
 -- what a host is told of the slots from i on, by the kinds of the arguments
 abbrev pub argument_of : Kind → ℕ → Argument
+argument_of Unknown n = Argument.Reference (n == 0)
 argument_of Word n = Argument.Word (n % 2 ^ 32)
 argument_of Ref n = Argument.Reference (n == 0)
 
@@ -184,6 +185,7 @@ arguments_from (k ∷ ks) mem i = argument_of k (slice_index mem i) ∷ argument
 
 -- the numbers of the reference arguments
 abbrev pub number_if : Kind → ℕ → List ℕ → List ℕ
+number_if Unknown n ns = ns
 number_if Word n ns = ns
 number_if Ref n ns = n ∷ ns
 

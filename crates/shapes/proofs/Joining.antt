@@ -1,33 +1,33 @@
 -- A record that a shape meets, by its mark.
-use Rattle.std.proofs.Common.{◌≡◌, ℕ, Bool, true, false, not, List, map, reverse, take, Option, sym, refl, ap, ◌∙◌, arith}
+use Rattle.std.proofs.Common.{◌≡◌, ℕ, Bool, true, false, not, List, reverse, take, sym, refl, ap, ◌∙◌, arith}
 use Rattle.bytecode.specs.declared.kind.Kind.{Kind}
 use Rattle.bytecode.specs.Outcome.{bad, good}
-use Rattle.plan.specs.Shapes.{Shape, eq_kinds, eq_variables, meet, clash, narrowed, merge_if, merge}
+use Rattle.plan.specs.Shapes.{Shape, eq_kinds, meet, clash, narrowed, merge_if, merge}
 use Rattle.plan.specs.Sweep.{marked, merged, join}
-use Rattle.plan.proofs.Reaching.{eq_variables-is, length_meet}
+use Rattle.plan.proofs.Reaching.{eq_kinds-is, length_meet}
 use Rattle.shapes.proofs.Comparing.{entries_eq, all_same, differ, agree}
-use Rattle.shapes.proofs.Stacks.{stack_taken, known_taken, has_shape, tidy_variables}
+use Rattle.shapes.proofs.Stacks.{stack_taken, has_shape, tidy_variables}
 use Rattle.shapes.specs.declared.table.ShapeMark.{ShapeMark}
 use Rattle.shapes.specs.declared.table.ShapeMark.TheVariants.{Blank, Start, Due, Shaped}
-use Rattle.shapes.specs.Stacks.{kind_in, stack_of, AllKnown, Filled}
+use Rattle.shapes.specs.Stacks.{stack_of, Filled}
 use Rattle.shapes.specs.Records.{cell_as}
 
 -- the stack of a record, and another's entries
-stacks_told : (d : ℕ) (xs ts : List (Option Kind)) (st : List Kind) → Filled d xs → st ≡ reverse (map kind_in ts) → AllKnown ts → eq_kinds (stack_of d xs) st ≡ entries_eq (take d xs) ts
-stacks_told d xs ts st f e i = all_same (stack_of d xs) st (take d xs) ts (stack_taken d xs (let z = f.low in omega (arith, f.long))) e (known_taken d xs f) i
+stacks_told : (d : ℕ) (xs ts st : List Kind) → Filled d xs → st ≡ reverse ts → eq_kinds (stack_of d xs) st ≡ entries_eq (take d xs) ts
+stacks_told d xs ts st f e = all_same (stack_of d xs) st (take d xs) ts (stack_taken d xs (let z = f.low in omega (arith, f.long))) e
 
-module _ (d : ℕ) (xs ts : List (Option Kind)) (st : List Kind) (f : Filled d xs) (e : st ≡ reverse (map kind_in ts)) (i : AllKnown ts) (r : Bool) (is : r ≡ not (entries_eq (take d xs) ts)) where
+module _ (d : ℕ) (xs ts st : List Kind) (f : Filled d xs) (e : st ≡ reverse ts) (r : Bool) (is : r ≡ not (entries_eq (take d xs) ts)) where
   pub stacks_differ : r ≡ true → eq_kinds (stack_of d xs) st ≡ false
-  stacks_differ h = stacks_told d xs ts st f e i ∙ differ (entries_eq (take d xs) ts) r is h
+  stacks_differ h = stacks_told d xs ts st f e ∙ differ (entries_eq (take d xs) ts) r is h
 
   pub stacks_agree : r ≡ false → true ≡ eq_kinds (stack_of d xs) st
-  stacks_agree h = agree (entries_eq (take d xs) ts) r is h ∙ sym (stacks_told d xs ts st f e i)
+  stacks_agree h = agree (entries_eq (take d xs) ts) r is h ∙ sym (stacks_told d xs ts st f e)
 
 merge_clash : (s x : Shape) → eq_kinds s.stack x.stack ≡ false → merge s x ≡ clash
 unfolding merge
 merge_clash s x e = ap (merge_if s x) e
 
-merge_narrowed : (s x : Shape) (b : Bool) → eq_kinds s.stack x.stack ≡ true → eq_variables (meet s.variables x.variables) s.variables ≡ b
+merge_narrowed : (s x : Shape) (b : Bool) → eq_kinds s.stack x.stack ≡ true → eq_kinds (meet s.variables x.variables) s.variables ≡ b
     → merge s x ≡ narrowed s (meet s.variables x.variables) b
 unfolding merge
 merge_narrowed s x b e d = ap (merge_if s x) e ∙ ap (narrowed s (meet s.variables x.variables)) d
@@ -56,13 +56,13 @@ module _ (f p q : ℕ) (m : ShapeMark) (s x : Shape) where
     join_clash e = shaped ∙ ap (merged f q (cell_as m s)) (merge_clash s x e)
 
     -- the variables v that are left
-    module _ (v : List (Option Kind)) (h : v ≡ meet s.variables x.variables) (e : true ≡ eq_kinds s.stack x.stack) where
-      pub join_same : true ≡ eq_variables v s.variables → join f p q (cell_as m s) x ≡ good (cell_as m (record { stack = s.stack; variables = v }))
+    module _ (v : List Kind) (h : v ≡ meet s.variables x.variables) (e : true ≡ eq_kinds s.stack x.stack) where
+      pub join_same : true ≡ eq_kinds v s.variables → join f p q (cell_as m s) x ≡ good (cell_as m (record { stack = s.stack; variables = v }))
       join_same d =
           shaped ∙ ap (merged f q (cell_as m s)) (merge_narrowed s x true (sym e) (rw (← h) (sym d))) ∙
-          ap (λ w. good (cell_as m (record { stack = s.stack; variables = w }))) (sym (eq_variables-is _ _ (sym d)))
+          ap (λ w. good (cell_as m (record { stack = s.stack; variables = w }))) (sym (eq_kinds-is _ _ (sym d)))
 
-      pub join_less : false ≡ eq_variables v s.variables → join f p q (cell_as m s) x ≡ good (marked (record { stack = s.stack; variables = v }))
+      pub join_less : false ≡ eq_kinds v s.variables → join f p q (cell_as m s) x ≡ good (marked (record { stack = s.stack; variables = v }))
       join_less d =
           shaped ∙ ap (merged f q (cell_as m s)) (merge_narrowed s x false (sym e) (rw (← h) (sym d))) ∙
           ap (λ w. good (marked (record { stack = s.stack; variables = w }))) (sym h)

@@ -1,3 +1,4 @@
 pub mod Stacks
 pub mod Records
 pub mod Acts
+pub mod Entries

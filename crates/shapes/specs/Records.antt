@@ -1,9 +1,9 @@
 -- What a record of the verifier's table stands for, and the record of a shape.
-use Rattle.std.specs.Prelude.{◌≡◌, ℕ, ◌<◌, ◌⊎◌, List, [], ◌∷◌, length, replicate, Some, None, Option, slice_index_or, slice_set}
-use Rattle.bytecode.specs.declared.kind.Kind.{Kind}
+use Rattle.std.specs.Prelude.{◌≡◌, ℕ, ◌<◌, ◌⊎◌, List, [], length, replicate, Some, None, Option, slice_index_or}
+use Rattle.bytecode.specs.declared.kind.Kind.TheVariants.{Unknown}
 use Rattle.plan.specs.Shapes.{Shape}
 use Rattle.plan.specs.Sweep.{Cell, off, blank, marked, settled}
-use Rattle.shapes.specs.Stacks.{stack_of, Filled}
+use Rattle.shapes.specs.Stacks.{stack_of, entries_of, Filled}
 use Rattle.shapes.specs.declared.table.ShapeMark.{ShapeMark}
 use Rattle.shapes.specs.declared.table.ShapeMark.TheVariants.{Blank, Start, Due, Shaped}
 use Rattle.shapes.specs.declared.table.ShapeRecord.{ShapeRecord}
@@ -29,17 +29,12 @@ cell_of r = cell_as r.mark (shape_in r)
 
 -- ## From a shape to its record
 
--- the array of a stack: 32 entries, none where unused
-abbrev pub entries_of : List Kind → List (Option Kind)
-entries_of [] = replicate 32 None
-entries_of (k ∷ st) = slice_set (entries_of st) (length st) (Some k)
-
 abbrev pub record_with : ShapeMark → Shape → ShapeRecord
 record_with m s = record { mark = m; depth = length s.stack; stack = entries_of s.stack; variables = s.variables }
 
 -- a record without a shape, but for its mark
 abbrev pub empty_record : ShapeMark → ShapeRecord
-empty_record m = record { mark = m; depth = 0; stack = replicate 32 None; variables = replicate 32 None }
+empty_record m = record { mark = m; depth = 0; stack = replicate 32 Unknown; variables = replicate 32 Unknown }
 
 abbrev pub blank_record : ShapeRecord
 blank_record = empty_record Blank
@@ -64,7 +59,7 @@ HasShape Start = ⊥
 HasShape Due = Unit {0}
 HasShape Shaped = Unit {0}
 
--- at most 32 entries have a kind, the others none
+-- at most 32 entries are used, the others are Unknown
 pub record Tidy (r : ShapeRecord) : Type 0 where
   pub stack : Filled r.depth r.stack
   pub wide : length r.variables ≡ 32
@@ -72,7 +67,7 @@ pub record Tidy (r : ShapeRecord) : Type 0 where
 -- and a record without a shape has nothing but its mark
 pub record Whole (r : ShapeRecord) : Type 0 where
   pub tidy : Tidy r
-  pub vacant : HasShape r.mark ⊎ ((r.depth ≡ 0) × (r.variables ≡ replicate 32 None))
+  pub vacant : HasShape r.mark ⊎ ((r.depth ≡ 0) × (r.variables ≡ replicate 32 Unknown))
 
 -- what stands in for a record past the end of a table
 abbrev pub no_record : ShapeRecord

@@ -12,7 +12,7 @@ use bytecode::refusal::CodeFault;
 /// What an instruction does to the stack: it takes some kinds and leaves one or none, or is one of those that work on any kinds.
 /// `Load` and `Store` have the number of a variable; `Alike` takes two of one kind; `Give` takes the only entry, of this kind.
 // One function picks an act and another does it. A closure would say the same, but none may be made and handed out.
-#[derive(Drop)]
+#[derive(Clone, Copy)]
 pub enum StackAct {
     Fixed(Kinds, Option<Kind>),
     Load(usize),
@@ -35,7 +35,10 @@ impl Shape {
         if variable >= count {
             return Err(CodeFault::Variable);
         }
-        let kind = self.variables[variable].ok_or(CodeFault::Variable)?;
+        let kind = self.variables[variable];
+        if kind == Kind::Unknown {
+            return Err(CodeFault::Variable);
+        }
         self.stack.push(kind)
     }
 
@@ -47,7 +50,7 @@ impl Shape {
         if variable >= count {
             return Err(CodeFault::Variable);
         }
-        self.variables[variable] = Some(self.stack.pop()?);
+        self.variables[variable] = self.stack.pop()?;
         Ok(())
     }
 

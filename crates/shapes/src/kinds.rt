@@ -1,45 +1,49 @@
 // Kinds by themselves, in the stack of a shape, and in its variables.
-ghost use Rattle.std.specs.Prelude.{◌≡◌, ℕ, ◌≤◌, [], ◌∷◌, map, reverse, not, length, MatchResult};
+ghost use Rattle.std.specs.Prelude.{◌≡◌, ℕ, ◌≤◌, [], ◌∷◌, reverse, not, length, MatchResult};
 ghost use Rattle.bytecode.specs.declared.refusal.CodeFault.TheVariants.{TooFew as TooFewFault};
 ghost use Rattle.plan.specs.Effects.{room, replace as replace_of, doubled, swapped, compared, returned};
-ghost use Rattle.plan.specs.Shapes.{eq_variables, meet, meet_kind};
+ghost use Rattle.plan.specs.Shapes.{eq_kinds, meet, meet_kind};
 ghost use Rattle.shapes.specs.Acts.{one_or_none, told_at};
-ghost use Rattle.shapes.specs.Stacks.{kind_in, AllKnown};
+ghost use Rattle.shapes.specs.Stacks.{stack_of, Filled};
 
 use bytecode::kind::Kind;
 use bytecode::refusal::CodeFault;
 use std::marker::Model;
 
 /// A stack of at most 32 kinds; a contract sees the list of them, the top first.
-// The array is that of a record of the table, from which it is copied and to which it goes: so a count and entries without a kind stay.
-#[derive(Drop)]
+// The array is that of a record of the table, from which it is copied and to which it goes: so a count and unused entries stay.
+#[derive(Clone, Copy)]
 pub struct Kinds {
     count: usize,
-    // the bottom first; none where unused
-    entries: [Option<Kind>; 32],
+    // the bottom first; Unknown where unused
+    entries: [Kind; 32],
 }
 
 impl Model for Kinds {
-    ghost use Rattle.std.specs.Prelude.{List};
+    ghost use Rattle.std.specs.Prelude.{List, length};
     ghost use Rattle.bytecode.specs.declared.kind.Kind.{Kind};
-    ghost use Rattle.shapes.specs.Stacks.{stack_of, Filled};
+    ghost use Rattle.shapes.specs.Stacks.{stack_of, entries_of, Filled};
+    ghost use Rattle.shapes.specs.Entries.{count_back, entries_back};
 
     ghost Value = { List Kind };
 
     ghost view = { λ s. stack_of s.count s.entries };
 
     ghost invariant = { λ s. Filled s.count s.entries };
+
+    ghost inverse = { λ ks. record { count = length ks; entries = entries_of ks } };
+
+    ghost inverse_ok = { λ s h i. record { count = count_back s.count s.entries h i; entries = entries_back s.count s.entries h i } };
 }
 
 impl Kinds {
-    /// Kinds in order, the last on top. None is missing.
+    /// Kinds in order, the last on top.
     #[tactic(auto, using(crate::proofs::Stacks::copied))]
-    pub fn of(kinds: &[Option<Kind>]) -> Kinds
-        requires few { length kinds.now ≤ 32 }
-        requires known { AllKnown kinds.now }
-        ensures { result ≡ reverse (map kind_in kinds.now) }
+    pub fn of(kinds: &[Kind]) -> Kinds
+        requires { length kinds.now ≤ 32 }
+        ensures { result ≡ reverse kinds.now }
     {
-        let mut entries = [None; 32];
+        let mut entries = [Kind::Unknown; 32];
         entries[..kinds.len()].copy_from_slice(kinds);
         Kinds {
             count: kinds.len(),
@@ -56,21 +60,36 @@ impl Kinds {
     pub fn one(kind: Kind) -> Kinds
         ensures { result ≡ kind ∷ [] }
     {
-        Kinds::of(&[Some(kind)])
+        Kinds::of(&[kind])
     }
 
     pub fn two(under: Kind, top: Kind) -> Kinds
         ensures { result ≡ top ∷ under ∷ [] }
     {
-        Kinds::of(&[Some(under), Some(top)])
+        Kinds::of(&[under, top])
     }
 
-    // The kinds in order, the last on top. None is missing.
-    #[tactic(auto, using(crate::proofs::Stacks::taken))]
-    pub(crate) fn as_slice(&self) -> &[Option<Kind>]
-        ensures kinds { self.now ≡ reverse (map kind_in result.now) }
+    // The stack that the first entries of a record's array hold.
+    pub(crate) fn held(count: usize, entries: [Kind; 32]) -> Kinds
+        requires { Filled count entries }
+        ensures { result ≡ stack_of count entries }
+    {
+        Kinds { count, entries }
+    }
+
+    // The count and the array, as a record of the table has them.
+    pub(crate) fn laid(&self) -> (usize, [Kind; 32])
+        ensures kinds { self.now ≡ stack_of result.0 result.1 }
+        ensures filled { Filled result.0 result.1 }
+    {
+        (self.count, self.entries)
+    }
+
+    // The kinds in order, the last on top.
+    #[tactic(auto, using(crate::proofs::Stacks::stack_taken))]
+    pub(crate) fn as_slice(&self) -> &[Kind]
+        ensures kinds { self.now ≡ reverse result.now }
         ensures few { length result.now ≤ 32 }
-        ensures known { AllKnown result.now }
     {
         &self.entries[..self.count]
     }
@@ -83,7 +102,7 @@ impl Kinds {
         if self.count == 32 {
             return Err(CodeFault::TooMany);
         }
-        self.entries[self.count] = Some(kind);
+        self.entries[self.count] = kind;
         self.count += 1;
         Ok(())
     }
@@ -96,9 +115,9 @@ impl Kinds {
         if self.count == 0 {
             return Err(CodeFault::TooFew);
         }
-        let top = self.entries[self.count - 1].unwrap();
+        let top = self.entries[self.count - 1];
         self.count -= 1;
-        self.entries[self.count] = None;
+        self.entries[self.count] = Kind::Unknown;
         Ok(top)
     }
 
@@ -114,7 +133,7 @@ impl Kinds {
             return Err(CodeFault::WrongKind);
         }
         let below = self.count - taken.count;
-        self.entries[below..self.count].fill(None);
+        self.entries[below..self.count].fill(Kind::Unknown);
         self.count = below;
         match left {
             Some(kind) => self.push(kind),
@@ -123,15 +142,14 @@ impl Kinds {
     }
 
     // Puts the top on top again.
-    #[tactic(auto, using(crate::proofs::Acting::doubling))]
+    #[tactic(auto, using(crate::proofs::Acting::doubled_top))]
     pub(crate) fn dup(&mut self) -> Result<(), CodeFault>
         ensures { (f p : ℕ) → doubled f p self.old ≡ told_at f p (λ _. self.new) result }
     {
         if self.count == 0 {
             return Err(CodeFault::TooFew);
         }
-        let top = self.entries[self.count - 1].unwrap();
-        self.push(top)
+        self.push(self.entries[self.count - 1])
     }
 
     // Exchanges the two uppermost.
@@ -173,19 +191,19 @@ impl Kinds {
 }
 
 // Kinds that differ become none.
-#[tactic(auto, using(plan::proofs::Reaching::variable_told))]
-fn meet_kind(a: Option<Kind>, b: Option<Kind>) -> Option<Kind>
+#[tactic(auto, using(plan::proofs::Reaching::kind_told))]
+fn meet_kind(a: Kind, b: Kind) -> Kind
     ensures { result ≡ meet_kind a b }
 {
-    if a == b { a } else { None }
+    if a == b { a } else { Kind::Unknown }
 }
 
 // Variables that differ become none; answers whether any changed.
 // The other list is indexed: of what is written through a zip of `iter_mut` no proof knows anything.
 #[tactic(auto, using(crate::proofs::Narrowing::narrowing))]
-pub(crate) fn narrow(old: &mut [Option<Kind>; 32], new: &[Option<Kind>; 32]) -> bool
+pub(crate) fn narrow(old: &mut [Kind; 32], new: &[Kind; 32]) -> bool
     ensures met { old.new ≡ meet old.old new.now }
-    ensures changed { not result ≡ eq_variables old.new old.old }
+    ensures changed { not result ≡ eq_kinds old.new old.old }
 {
     let before = *old;
     for (i, kind) in old.iter_mut().enumerate() {

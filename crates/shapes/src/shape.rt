@@ -5,11 +5,11 @@ use crate::kinds::Kinds;
 use crate::table::{ShapeMark, ShapeRecord};
 use bytecode::kind::Kind;
 
-/// The kinds on the stack, and those of the variables that a kind is known of.
+/// The kinds on the stack and of the variables; Unknown where no kind is known.
 #[derive(Drop)]
 pub struct Shape {
     pub stack: Kinds,
-    pub variables: [Option<Kind>; 32],
+    pub variables: [Kind; 32],
     pub ghost wide: { length variables ≡ 32 },
 }
 
@@ -17,18 +17,15 @@ impl Shape {
     ghost use Rattle.shapes.specs.Records.{shape_as, shape_in, Tidy};
 
     /// The record of a place that has this shape.
-    #[tactic(auto, using(crate::proofs::Stacks::copied))]
     pub fn record(&self, mark: ShapeMark) -> ShapeRecord
         ensures mark { result.mark ≡ mark }
         ensures shape { shape_in result ≡ shape_as self.now }
         ensures tidy { Tidy result }
     {
-        let kinds = self.stack.as_slice();
-        let mut stack = [None; 32];
-        stack[..kinds.len()].copy_from_slice(kinds);
+        let (depth, stack) = self.stack.laid();
         ShapeRecord {
             mark,
-            depth: kinds.len(),
+            depth,
             stack,
             variables: self.variables,
         }

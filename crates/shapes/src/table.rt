@@ -19,14 +19,14 @@ pub enum ShapeMark {
     Shaped,
 }
 
-/// A record of the table, for one byte of code: the kinds on the stack, the bottom first, and of the variables; none where unused.
+/// A record of the table, for one byte of code: the kinds on the stack, the bottom first, and of the variables; Unknown where unused.
 // The parts stand side by side whatever the mark: the table's records are defined so, and hold a place's stack when it is marked anew.
 #[derive(Clone, Copy, PartialEq, Eq)]
 pub struct ShapeRecord {
     pub mark: ShapeMark,
     pub depth: usize,
-    pub stack: [Option<Kind>; 32],
-    pub variables: [Option<Kind>; 32],
+    pub stack: [Kind; 32],
+    pub variables: [Kind; 32],
 }
 
 /// The record of a place without a shape.
@@ -36,20 +36,19 @@ pub fn blank_record() -> ShapeRecord
     ShapeRecord {
         mark: ShapeMark::Blank,
         depth: 0,
-        stack: [None; 32],
-        variables: [None; 32],
+        stack: [Kind::Unknown; 32],
+        variables: [Kind::Unknown; 32],
     }
 }
 
 impl ShapeRecord {
     /// Its shape.
-    #[tactic(auto, using(crate::proofs::Stacks::taken))]
     pub fn shape(&self) -> Shape
         requires { Tidy self.now }
         ensures { shape_as result ≡ shape_in self.now }
     {
         Shape {
-            stack: Kinds::of(&self.stack[..self.depth]),
+            stack: Kinds::held(self.depth, self.stack),
             variables: self.variables,
         }
     }

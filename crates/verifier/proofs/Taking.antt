@@ -122,13 +122,13 @@ module _ (P : Program) (f : ℕ) (rs : List ShapeRecord) (p : ℕ) (e : p ≡ lo
         (rw (a, b))
 
     -- a take leaves less
-    pub take_less : (us : List ShapeRecord) → SizedAll (variables_at P f) (map cell_of rs)
+    pub take_less : WellFormed P → (us : List ShapeRecord) → SizedAll (variables_at P f) (map cell_of rs)
         → visit P f (map cell_of rs) p (shape_in (get_or rs p no_record)) ≡ good (map cell_of us)
         → SizedAll (variables_at P f) (map cell_of us) × (total (variables_at P f) (map cell_of us) < total (variables_at P f) (map cell_of rs))
-    take_less us z v =
+    take_less formed us z v =
         on_good (Unit {0}) (λ U. SizedAll (variables_at P f) U × (total (variables_at P f) U < total (variables_at P f) (map cell_of rs)))
         (visit P f (map cell_of rs) p (shape_in (get_or rs p no_record))) (map cell_of us) v
-        (visit_lighter P f [] (map cell_of rs) p (shape_in (get_or rs p no_record)) (lowest_due rs p e h) z)
+        (visit_lighter P formed f [] (map cell_of rs) p (shape_in (get_or rs p no_record)) (lowest_due rs p e h) z)
 
 -- ## The table before the first take
 

@@ -1,6 +1,7 @@
 -- Acts of instructions, and arguments as variables.
-use Rattle.std.specs.Prelude.{◌-◌, ◌≤◌, List, ◌++◌, map, length, replicate, Some, None, Option}
+use Rattle.std.specs.Prelude.{◌-◌, ◌≤◌, List, ◌++◌, length, replicate, Some, None, Option}
 use Rattle.bytecode.specs.declared.kind.Kind.{Kind}
+use Rattle.bytecode.specs.declared.kind.Kind.TheVariants.{Unknown}
 use Rattle.plan.specs.Effects.{Act, call}
 use Rattle.reader.specs.declared.package.Signature.{Signature}
 use Rattle.reader.specs.Entries.{signature_of}
@@ -20,6 +21,6 @@ called (Some s) = Some (call (signature_of s))
 abbrev pub Few : Signature → Type 0
 Few s = length (signature_of s).arguments ≤ 32
 
--- 32 variables, those without an argument of no kind
-abbrev pub padded : List Kind → List (Option Kind)
-padded ks = map Some ks ++ replicate (32 - length ks) None
+-- 32 variables, those without an argument Unknown
+abbrev pub padded : List Kind → List Kind
+padded ks = ks ++ replicate (32 - length ks) Unknown

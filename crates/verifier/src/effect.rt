@@ -1,5 +1,6 @@
 // What each instruction does to the stack, by the pools and the sheet of its package.
-ghost use Rattle.std.specs.Prelude.{◌≡◌, ℕ, [], ◌∷◌, reverse, IfSome};
+ghost use Rattle.std.specs.Prelude.{◌≡◌, ℕ, [], ◌∷◌, reverse, slice_index_or, IfSome};
+ghost use Rattle.bytecode.specs.declared.kind.Kind.TheVariants.{Unknown};
 ghost use Rattle.plan.specs.Programs.{nth};
 ghost use Rattle.plan.specs.Plans.{entry_of};
 ghost use Rattle.plan.specs.Effects.{fixed as fixed_of, within, call_static, call_native, act_of, effect as effect_of};
@@ -23,25 +24,25 @@ use std::array;
 // has a ghost field, and a package holds its signatures in arrays.
 
 // The kinds of arguments as those of the variables at entry.
-fn argument_variables(signature: &Signature) -> [Option<Kind>; 32]
+fn argument_variables(signature: &Signature) -> [Kind; 32]
     requires { Few signature.now }
     ensures { result ≡ padded (signature_of signature.now).arguments }
 {
     array::from_fn(
-        |argument| -> Option<Kind>
-            ensures { result ≡ nth (signature_of signature.entry.now).arguments argument }
+        |argument| -> Kind
+            ensures { result ≡ slice_index_or (signature_of signature.entry.now).arguments argument Unknown }
         {
             if argument < signature.argument_count() {
-                Some(signature.argument_kind(argument))
+                signature.argument_kind(argument)
             } else {
-                None
+                Kind::Unknown
             }
         },
     )
 }
 
 // The kinds of arguments on the stack, the last on top.
-#[tactic(auto, using(crate::proofs::Arguments::laying))]
+#[tactic(auto, using(crate::proofs::Arguments::front_kinds))]
 fn arguments(signature: &Signature) -> Kinds
     requires { Few signature.now }
     ensures { result ≡ reverse (signature_of signature.now).arguments }

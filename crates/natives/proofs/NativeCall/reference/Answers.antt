@@ -1,7 +1,7 @@
 use Rattle.std.proofs.Common.{rules, tests, ◌∙◌, get_or, ap, sym, zero-add, arith}
 use Rattle.std.proofs.lemmas.Iterator.{YieldsList-from_slice, YieldsList-from_map}
 use Rattle.std.proofs.lemmas.Iterator.Consumers.{YieldsList-at, YieldsList-from_enumerate, YieldsList-from_filter, nth_from_yields_List}
-use Rattle.bytecode.specs.declared.kind.Kind.TheVariants.{Word, Reference}
+use Rattle.bytecode.specs.declared.kind.Kind.TheVariants.{Unknown, Reference}
 use Rattle.plan.specs.Programs.{nth}
 use Rattle.plan.specs.Shapes.{eq_kind}
 use Rattle.natives.specs.Calls.{native_of}
@@ -16,8 +16,8 @@ returns c =
     ∙ nth_from_yields_List c.nth.result _ c.args.position c.nth.ensures.ran
     (YieldsList-from_map _ (λ p. p.1)
     (YieldsList-at c.map.ensures.source
-    (YieldsList-from_filter _ (λ p. eq_kind (get_or ks p.0 Word) Reference)
+    (YieldsList-from_filter _ (λ p. eq_kind (get_or ks p.0 Unknown) Reference)
     (YieldsList-at c.filter.ensures.source (YieldsList-from_enumerate (YieldsList-from_slice mem cc) cc)) c.filter.ensures.closure (λ x b q k. search (rules, tests))))
     c.map.ensures.closure (λ x r q k. search (rules, tests)))
     ∙ ap (λ ns. nth ns c.args.position)
-    (numbers_counted ks ks mem mem 0 (omega arith) (λ j. ap (λ n. get_or ks n Word) (sym (zero-add j))) (λ j. ap (λ n. get_or mem n 0) (sym (zero-add j))))
+    (numbers_counted ks ks mem mem 0 (omega arith) (λ j. ap (λ n. get_or ks n Unknown) (sym (zero-add j))) (λ j. ap (λ n. get_or mem n 0) (sym (zero-add j))))

@@ -1,5 +1,5 @@
 use Rattle.std.proofs.Common.{◌<◌, get_or, ap, ◌∙◌, arith, length-set}
-use Rattle.bytecode.specs.declared.kind.Kind.TheVariants.{Word}
+use Rattle.bytecode.specs.declared.kind.Kind.TheVariants.{Unknown}
 use Rattle.runtime.specs.Runtime.{argument_of}
 use Rattle.natives.specs.Calls.{native_of}
 use Rattle.natives.proofs.Gathering.{arguments_turn}
@@ -14,5 +14,5 @@ loop-i-preserved c =
       size = simp length-set (omega arith);
       begun =
           arguments_turn (native_of c.args.self.now.callee).signature.arguments mem c.loop-i.told i c.argument.result (omega arith) (omega arith)
-          c.loop-i.invariant.begun (c.argument.ensures ∙ ap (λ k. argument_of k (get_or mem i 0)) (c.argument_kind.ensures ∙ ap (λ g. get_or g.arguments i Word) c.signature-signature.ensures.met));
+          c.loop-i.invariant.begun (c.argument.ensures ∙ ap (λ k. argument_of k (get_or mem i 0)) (c.argument_kind.ensures ∙ ap (λ g. get_or g.arguments i Unknown) c.signature-signature.ensures.met));
     }

@@ -21,7 +21,7 @@ returns-in-Some c = λ f p.
     let kept = stack_below _ c.self.inside.count c.self.inside.entries c.fill.new.self c.self.invariant (omega arith) (c.fill.ensures.after (λ y e. search rules)) in
     ap (λ o. replace f p c.args.taken.now (one_or_none o) c.args.self.now) c.in-Some.is ∙
     replace_right f p c.args.taken.now (c.in-Some.kind ∷ []) c.args.self.now h
-    (on_top _ _ c.as_slice.result.now c.as_slice-2.result.now c.as_slice.ensures.kinds c.as_slice-2.ensures.kinds c.as_slice.ensures.known c.as_slice-2.ensures.known h ∙
+    (on_top _ _ c.as_slice.result.now c.as_slice-2.result.now c.as_slice.ensures.kinds c.as_slice-2.ensures.kinds h ∙
     sym c.ends_with.ensures.value ∙ c.if-not-ends_with.false) ∙
     ap (λ st. room f p (c.in-Some.kind ∷ st)) (stack_lowered _ _ _ _ _ c.self.view_is n c.if-self-taken.false ∙ sym kept) ∙
     c.push.ensures f p
@@ -35,7 +35,7 @@ returns-in-None c = λ f p.
     let kept = stack_below _ c.self.inside.count c.self.inside.entries c.fill.new.self c.self.invariant (omega arith) (c.fill.ensures.after (λ y e. search rules)) in
     ap (λ o. replace f p c.args.taken.now (one_or_none o) c.args.self.now) c.in-None.is ∙
     replace_right f p c.args.taken.now [] c.args.self.now h
-    (on_top _ _ c.as_slice.result.now c.as_slice-2.result.now c.as_slice.ensures.kinds c.as_slice-2.ensures.kinds c.as_slice.ensures.known c.as_slice-2.ensures.known h ∙
+    (on_top _ _ c.as_slice.result.now c.as_slice-2.result.now c.as_slice.ensures.kinds c.as_slice-2.ensures.kinds h ∙
     sym c.ends_with.ensures.value ∙ c.if-not-ends_with.false) ∙
     room_lowered f p c.args.self.now (length c.args.taken.now) few ∙
     ap good (stack_lowered _ _ _ _ _ c.self.view_is n c.if-self-taken.false ∙ sym kept)

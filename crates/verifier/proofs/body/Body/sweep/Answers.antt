@@ -64,7 +64,7 @@ overflow_add-takes c =
 
 pub loop-place-smaller : goal.loop-place-smaller
 loop-place-smaller c =
-    (take_less (program_in c.args.self.now) c.args.self.now.function c.loop-place.table c.in-Some.place c.in-Some.ensures.0 c.in-Some.ensures.1 c.visit.new.table c.loop-place.invariant.2
+    (take_less (program_in c.args.self.now) c.args.self.now.function c.loop-place.table c.in-Some.place c.in-Some.ensures.0 c.in-Some.ensures.1 (well_formed c.args.self.now.«package».now) c.visit.new.table c.loop-place.invariant.2
     c.in_ok-from-2.ensures.met).1
 
 pub loop-place-preserved : goal.loop-place-preserved
@@ -72,7 +72,7 @@ loop-place-preserved c =
     let P : Program = program_in c.args.self.now in
     let f : ℕ = c.args.self.now.function in
     let n : ℕ = most P f (starts_at P f) in
-    let l = take_less P f c.loop-place.table c.in-Some.place c.in-Some.ensures.0 c.in-Some.ensures.1 c.visit.new.table c.loop-place.invariant.2 c.in_ok-from-2.ensures.met in
+    let l = take_less P f c.loop-place.table c.in-Some.place c.in-Some.ensures.0 c.in-Some.ensures.1 (well_formed c.args.self.now.«package».now) c.visit.new.table c.loop-place.invariant.2 c.in_ok-from-2.ensures.met in
     let e : n - c.loop-place.takes - 1 ≡ n - (c.loop-place.takes + 1) = omega arith in (
       c.loop-place.invariant.0 ∙
           run_more P f c.loop-place.table c.in-Some.place c.in-Some.ensures.0 c.in-Some.ensures.1 (n - c.loop-place.takes) c.loop-place.takes (good (map cell_of c.visit.new.table))
