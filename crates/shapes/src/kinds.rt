@@ -4,7 +4,6 @@ ghost use Rattle.bytecode.specs.declared.refusal.CodeFault.TheVariants.{TooFew a
 ghost use Rattle.plan.specs.Effects.{room, replace as replace_of, doubled, swapped, compared, returned};
 ghost use Rattle.plan.specs.Shapes.{eq_kinds, meet, meet_kind};
 ghost use Rattle.shapes.specs.Acts.{one_or_none, told_at};
-ghost use Rattle.shapes.specs.Stacks.{stack_of, Filled};
 
 use bytecode::kind::Kind;
 use bytecode::refusal::CodeFault;
@@ -14,9 +13,9 @@ use std::marker::Model;
 // The array is that of a record of the table, from which it is copied and to which it goes: so a count and unused entries stay.
 #[derive(Clone, Copy)]
 pub struct Kinds {
-    count: usize,
+    pub count: usize,
     // the bottom first; Unknown where unused
-    entries: [Kind; 32],
+    pub entries: [Kind; 32],
 }
 
 impl Model for Kinds {
@@ -67,22 +66,6 @@ impl Kinds {
         ensures { result ≡ top ∷ under ∷ [] }
     {
         Kinds::of(&[under, top])
-    }
-
-    // The stack that the first entries of a record's array hold.
-    pub(crate) fn held(count: usize, entries: [Kind; 32]) -> Kinds
-        requires { Filled count entries }
-        ensures { result ≡ stack_of count entries }
-    {
-        Kinds { count, entries }
-    }
-
-    // The count and the array, as a record of the table has them.
-    pub(crate) fn laid(&self) -> (usize, [Kind; 32])
-        ensures kinds { self.now ≡ stack_of result.0 result.1 }
-        ensures filled { Filled result.0 result.1 }
-    {
-        (self.count, self.entries)
     }
 
     // The kinds in order, the last on top.
@@ -201,6 +184,7 @@ fn meet_kind(a: Kind, b: Kind) -> Kind
 // Variables that differ become none; answers whether any changed.
 // The other list is indexed: of what is written through a zip of `iter_mut` no proof knows anything.
 #[tactic(auto, using(crate::proofs::Narrowing::narrowing))]
+#[inline(never)]
 pub(crate) fn narrow(old: &mut [Kind; 32], new: &[Kind; 32]) -> bool
     ensures met { old.new ≡ meet old.old new.now }
     ensures changed { not result ≡ eq_kinds old.new old.old }

@@ -22,11 +22,10 @@ impl Shape {
         ensures shape { shape_in result ≡ shape_as self.now }
         ensures tidy { Tidy result }
     {
-        let (depth, stack) = self.stack.laid();
         ShapeRecord {
             mark,
-            depth,
-            stack,
+            depth: self.stack.count,
+            stack: self.stack.entries,
             variables: self.variables,
         }
     }

@@ -48,7 +48,10 @@ impl ShapeRecord {
         ensures { shape_as result ≡ shape_in self.now }
     {
         Shape {
-            stack: Kinds::held(self.depth, self.stack),
+            stack: Kinds {
+                count: self.depth,
+                entries: self.stack,
+            },
             variables: self.variables,
         }
     }
@@ -57,6 +60,7 @@ impl ShapeRecord {
 /// The record of a place is met by a shape that comes from another place. NoStart is a fault of the place that the shape comes from,
 /// StacksDiffer one of the place that it meets.
 #[tactic(auto, using(crate::proofs::Joining::joining))]
+#[inline(always)]
 pub fn join(record: &mut ShapeRecord, shape: &Shape) -> Result<(), CodeFault>
     requires { Whole «record».old }
     ensures met { (f p q : ℕ) → join_of f p q (cell_of «record».old) (shape_as shape.now) ≡ told_between f p q (λ _. cell_of «record».new) result }

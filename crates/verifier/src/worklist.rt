@@ -35,6 +35,7 @@ pub(crate) fn lowest(table: &[ShapeRecord], from: usize) -> Option<usize>
 // A shape goes on from a place to the next or to a target. Nothing is marked below `low`; answers such a bound for the table afterwards.
 // The bound goes from call to call beside the table: a struct that holds a lent table would owe a clause on the loan in each method.
 #[tactic(auto, using(crate::proofs::Spreading::going, crate::proofs::Faults::placing))]
+#[inline(always)]
 pub(crate) fn go_on(
     table: &mut [ShapeRecord],
     shape: &Shape,
