@@ -4,7 +4,7 @@
 ghost use Rattle.std.specs.Prelude.{◌≡◌, Ok, MatchResult};
 ghost use Rattle.bytecode.specs.Outcome.{report, shown};
 ghost use Rattle.source.specs.Numbers.{text_shown};
-ghost use Rattle.intake.specs.declared.Failure.TheVariants.{Refused};
+ghost use Rattle.intake.specs.declared.Failure.TheVariants.{Refused, Broken};
 ghost use Rattle.intake.specs.Intake.{bytes_of_text, Tells, IsBroken};
 
 use bytecode::refusal::{Refusal, Report};
@@ -43,6 +43,8 @@ impl From<Refusal> for Failure {
 }
 
 impl From<io::Error> for Failure {
+    ghost from_gives = { λ error f. f ≡ Broken error };
+
     fn from(error: io::Error) -> Failure {
         Failure::Broken(error)
     }
@@ -61,7 +63,7 @@ impl Failure {
     pub fn print(self, rt: &impl Print) -> io::Result<()> {
         match self {
             Failure::Refused(report) => println!(rt; "refused {report}"),
-            Failure::Broken(error) => Err(error),
+            Failure::Broken(failed) => Err(failed),
         }
     }
 }

@@ -84,6 +84,11 @@ fitting_of p =
     let gs : 0 < length (take p.function_count p.functions) = (let k = length-take-le p.function_count p.functions n in let s = p.some_functions in omega arith) in
     let sum = code_same (take p.function_count p.functions) ∙ p.functions_known.sum in
     record {
+      front = p.front;
+      codes_inside = p.codes_inside;
+      codes_behind = p.functions_known.behind;
+      letters_inside = p.letters_inside;
+      native_letters_inside = p.native_letters_inside;
       some_functions = p.some_functions;
       few_functions = p.few_functions;
       few_natives = p.few_natives;

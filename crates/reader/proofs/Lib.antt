@@ -3,3 +3,4 @@ mod Turns
 mod Places
 mod Joining
 pub mod Fits
+pub mod Lettering

@@ -1,5 +1,5 @@
 -- What the entries of a package stand for, and what is known of them.
-use Rattle.std.specs.Prelude.{◌≡◌, ℕ, ◌+◌, ◌-◌, ◌*◌, ◌^◌, ◌<◌, ◌≤◌, List, [], map, length, take, slice_index_or}
+use Rattle.std.specs.Prelude.{◌≡◌, ℕ, ◌+◌, ◌-◌, ◌*◌, ◌^◌, ◌<◌, ◌≤◌, List, [], map, length, take, drop, slice_index_or}
 use Rattle.std.specs.List.{All}
 use Rattle.bytecode.specs.Program as program
 use Rattle.reader.specs.declared.package.Signature.{Signature}
@@ -8,7 +8,8 @@ use Rattle.reader.specs.declared.package.NativeEntry.{NativeEntry}
 use Rattle.reader.specs.declared.package.Function.{Function}
 use Rattle.reader.specs.declared.package.Native.{Native}
 use Rattle.reader.specs.declared.sheet.Sort.{Sort}
-use Rattle.reader.specs.Fields.{byte, four}
+use Rattle.std.specs.Simd.{first_chunks}
+use Rattle.reader.specs.Fields.{byte, bytes_from, four}
 use Rattle.reader.specs.Layout as layout
 use Rattle.reader.specs.Layout.{kind_of, code_bytes}
 
@@ -46,12 +47,15 @@ native_entry f = f.entry
 
 -- ## What is known of them
 
--- a package of at most 16,384 bytes, with the integers and the strings among them; integers are words; strings end with 0
+-- a package of at most 16,384 bytes; the integers stand in it from offset 8 on, the strings behind them and their count; integers are
+-- words; strings end with 0
 pub record FrontFits (bs : List ℕ) (integers : List (List ℕ)) (strings : List ℕ) : Type 0 where
   pub short : length bs ≤ 16384
-  pub integers_inside : 4 * length integers ≤ length bs
+  pub integers_there : integers ≡ first_chunks 4 (length integers) (drop 8 bs)
+  pub integers_inside : 8 + 4 * length integers ≤ length bs
   pub words : (k : ℕ) → integer_of (slice_index_or integers k []) < 2 ^ 32
-  pub strings_inside : length strings ≤ length bs
+  pub strings_there : strings ≡ bytes_from bs (10 + 4 * length integers) (length strings)
+  pub strings_inside : 10 + 4 * length integers + length strings ≤ length bs
   pub strings_end : 0 < length strings → byte strings (length strings - 1) ≡ 0
 
 -- a function within the limits, its code inside the package
@@ -61,6 +65,26 @@ pub record FunctionFits (e : FunctionEntry) : Type 0 where
   pub inside : e.size ≤ length e.onward.now
   pub narrow : e.variables ≤ 32
   pub ordered : e.arguments ≤ e.variables
+
+-- a function's code and what stands behind it are the end of the package
+pub record FunctionInside (bs : List ℕ) (e : FunctionEntry) : Type 0 where
+  pub inside : length e.onward.now ≤ length bs
+  pub there : e.onward.now ≡ drop (length bs - length e.onward.now) bs
+
+-- the letters of a signature stand in the package: that of the result at an offset, those of the arguments behind it
+pub record LettersAt (bs : List ℕ) (s : Signature) (p : ℕ) : Type 0 where
+  pub inside : p + 1 + length s.argument_letters.now ≤ length bs
+  pub result : s.result_letter ≡ byte bs p
+  pub arguments : s.argument_letters.now ≡ bytes_from bs (p + 1) (length s.argument_letters.now)
+
+abbrev pub LettersInside : List ℕ → Signature → Type 0
+LettersInside bs s = ∥ ((p : ℕ) × LettersAt bs s p) ∥₁
+
+abbrev pub FunctionLettersInside : List ℕ → Function → Type 0
+FunctionLettersInside bs f = LettersInside bs f.signature
+
+abbrev pub NativeLettersInside : List ℕ → Native → Type 0
+NativeLettersInside bs f = LettersInside bs f.signature
 
 -- n bytes of the package stand behind a function's code
 abbrev pub FunctionBehind : ℕ → FunctionEntry → Type 0

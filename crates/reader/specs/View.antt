@@ -1,13 +1,13 @@
 -- What a package that was read stands for, and what is known of it.
 use Rattle.std.specs.Prelude.{◌≡◌, ℕ, ◌+◌, ◌-◌, ◌^◌, ◌<◌, ◌≤◌, List, [], ◌∷◌, map, length, take, slice_index, slice_index_or}
-use Rattle.std.specs.List.{AllByRecursion}
+use Rattle.std.specs.List.{All, AllByRecursion}
 use Rattle.bytecode.specs.declared.kind.Kind.{Kind}
 use Rattle.bytecode.specs.declared.kind.Kind.TheVariants.{Unknown, Word, Reference}
 use Rattle.bytecode.specs.Program as program
 use Rattle.bytecode.specs.Program.{Program}
 use Rattle.reader.specs.declared.package.Package.{Package}
 use Rattle.reader.specs.Fields.{byte}
-use Rattle.reader.specs.Entries.{integer_of, function_of, native_of}
+use Rattle.reader.specs.Entries.{integer_of, function_entry, function_of, native_of, FrontFits, FunctionInside, FunctionBehind, FunctionLettersInside, NativeLettersInside}
 
 abbrev pub program_of : Package → Program
 program_of p =
@@ -64,8 +64,13 @@ pub record NativeFormed (g : program.Native) : Type 0 where
   pub takes : AllByRecursion KnownKind g.signature.arguments
   pub gives : KnownKind g.signature.result
 
--- what every package keeps to: main takes nothing and gives a word
+-- what every package keeps to: integers, strings, codes and letters lie in its bytes, and all limits hold; main takes nothing and gives a word
 pub record Fitting (p : Package) : Type 0 where
+  pub front : FrontFits p.bytes.now p.integers.now p.strings.now
+  pub codes_inside : All (FunctionInside p.bytes.now) (map function_entry (take p.function_count p.functions))
+  pub codes_behind : All (FunctionBehind 2) (map function_entry (take p.function_count p.functions))
+  pub letters_inside : All (FunctionLettersInside p.bytes.now) (take p.function_count p.functions)
+  pub native_letters_inside : All (NativeLettersInside p.bytes.now) (take p.native_count p.natives)
   pub some_functions : 0 < p.function_count
   pub few_functions : p.function_count ≤ 64
   pub few_natives : p.native_count ≤ 32

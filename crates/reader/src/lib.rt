@@ -25,6 +25,7 @@ const VERSION: u16 = 0x0017;
 fn read_magic<'a>(bytes: &'a [u8]) -> Result<Cursor<'a>, Refusal>
     ensures met { magic_at bytes.now ≡ told (λ cursor. cursor.offset) result }
     ensures lent { IfOk result (λ cursor. cursor.bytes.now ≡ bytes.now) }
+    ensures behind { IfOk result (λ cursor. cursor.offset ≡ 4) }
 {
     match bytes {
         [0xC0, 0xC0, 0xFF, 0xEE, rest @ ..] => Ok(Cursor::new(bytes, bytes.len() - rest.len())),

@@ -2,7 +2,8 @@
 ghost use Rattle.std.specs.Prelude.{◌≡◌, ◌+◌, ◌<◌, ◌≤◌, length, map, take, slice_index_or};
 ghost use Rattle.bytecode.specs.declared.kind.Kind.TheVariants.{Unknown};
 ghost use Rattle.reader.specs.Layout.{kind_of as kind_told};
-ghost use Rattle.reader.specs.Entries.{FrontFits, FunctionsKnown, NativesKnown};
+ghost use Rattle.std.specs.List.{All};
+ghost use Rattle.reader.specs.Entries.{function_entry, FrontFits, FunctionInside, FunctionsKnown, FunctionLettersInside, NativesKnown, NativeLettersInside};
 
 use bytecode::kind::Kind;
 
@@ -134,6 +135,9 @@ pub struct Package<'a> {
     pub ghost front: { FrontFits bytes.now integers.now strings.now },
     pub ghost functions_known: { FunctionsKnown (take function_count functions) code_size },
     pub ghost natives_known: { NativesKnown (take native_count natives) },
+    pub ghost codes_inside: { All (FunctionInside bytes.now) (map function_entry (take function_count functions)) },
+    pub ghost letters_inside: { All (FunctionLettersInside bytes.now) (take function_count functions) },
+    pub ghost native_letters_inside: { All (NativeLettersInside bytes.now) (take native_count natives) },
 }
 
 // Instructions name functions and natives by numbers. That there is one is a clause of each method: a type for a number that is good would

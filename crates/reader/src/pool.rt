@@ -1,11 +1,11 @@
 // The pools of a package: integers, strings, functions, natives.
-ghost use Rattle.std.specs.Prelude.{◌≡◌, ℕ, ◌+◌, ◌-◌, ◌*◌, ◌^◌, ◌<◌, ◌≤◌, [], map, length, slice_index_or, IfOk, OnOk};
+ghost use Rattle.std.specs.Prelude.{◌≡◌, ℕ, ◌+◌, ◌-◌, ◌*◌, ◌^◌, ◌<◌, ◌≤◌, [], map, length, drop, slice_index_or, IfOk, OnOk};
 ghost use Rattle.std.specs.List.{AllByRecursion};
 ghost use Rattle.std.specs.Simd.{first_chunks};
 ghost use Rattle.bytecode.specs.Outcome.{told};
-ghost use Rattle.reader.specs.Fields.{byte};
+ghost use Rattle.reader.specs.Fields.{byte, bytes_from};
 ghost use Rattle.reader.specs.Layout.{integers_at, strings_at, function_at, functions_at, native_at, natives_at, code_bytes};
-ghost use Rattle.reader.specs.Entries.{integer_of, function_entry, function_entry_of, native_entry, native_entry_of, FunctionFits, FunctionBehind, MainTakes, NativeFits};
+ghost use Rattle.reader.specs.Entries.{integer_of, function_entry, function_entry_of, native_entry, native_entry_of, FunctionFits, FunctionInside, FunctionBehind, MainTakes, NativeFits};
 
 use crate::field::{Cursor, refused};
 use crate::package::{Function, FunctionEntry, Native, NativeEntry};
@@ -36,7 +36,9 @@ pub(crate) fn read_integers<'a>(
 ) -> Result<&'a [[u8; 4]], Refusal>
     ensures met { integers_at cursor.old.bytes.now count cursor.old.offset ≡ told (λ words. record { value = map integer_of words.now; after = cursor.new.offset }) result }
     ensures lent { cursor.new.bytes.now ≡ cursor.old.bytes.now }
-    ensures inside { IfOk result (λ words. 4 * length words.now ≤ length cursor.old.bytes.now) }
+    ensures there { IfOk result (λ words. words.now ≡ first_chunks 4 count (drop cursor.old.offset cursor.old.bytes.now)) }
+    ensures few { IfOk result (λ words. length words.now ≡ count) }
+    ensures moved { OnOk result (cursor.new.offset ≡ cursor.old.offset + 4 * count) }
     ensures words { IfOk result (λ words. (k : ℕ) → integer_of (slice_index_or words.now k []) < 2 ^ 32) }
 {
     let rest = cursor.rest();
@@ -51,7 +53,9 @@ pub(crate) fn read_integers<'a>(
 pub(crate) fn read_strings<'a>(cursor: &mut Cursor<'a>, size: usize) -> Result<&'a [u8], Refusal>
     ensures met { strings_at cursor.old.bytes.now size cursor.old.offset ≡ told (λ strings. record { value = strings.now; after = cursor.new.offset }) result }
     ensures lent { cursor.new.bytes.now ≡ cursor.old.bytes.now }
-    ensures inside { IfOk result (λ strings. length strings.now ≤ length cursor.old.bytes.now) }
+    ensures there { IfOk result (λ strings. strings.now ≡ bytes_from cursor.old.bytes.now cursor.old.offset size) }
+    ensures few { IfOk result (λ strings. length strings.now ≡ size) }
+    ensures inside { OnOk result (cursor.old.offset + size ≤ length cursor.old.bytes.now) }
     ensures ended { IfOk result (λ strings. 0 < length strings.now → byte strings.now (length strings.now - 1) ≡ 0) }
 {
     let offset = cursor.offset();
@@ -73,6 +77,7 @@ fn read_function<'a>(
     ensures lent { cursor.new.bytes.now ≡ cursor.old.bytes.now }
     ensures onward { OnOk result (cursor.old.offset ≤ cursor.new.offset) }
     ensures fits { IfOk result FunctionFits }
+    ensures inside { IfOk result (FunctionInside cursor.old.bytes.now) }
     ensures few { IfOk result (λ e. before + e.size ≤ 4096) }
     ensures behind { IfOk result (FunctionBehind (length cursor.old.bytes.now - cursor.new.offset)) }
     ensures main { IfOk result (λ e. index ≡ 0 → e.arguments ≡ 0) }
@@ -109,6 +114,7 @@ pub(crate) fn read_functions<'a>(
     ensures met { functions_at cursor.old.bytes.now (length functions.old) cursor.old.offset ≡ told (λ _. record { value = map function_entry_of (map function_entry functions.new); after = cursor.new.offset }) result }
     ensures lent { cursor.new.bytes.now ≡ cursor.old.bytes.now }
     ensures fit { OnOk result (AllByRecursion FunctionFits (map function_entry functions.new)) }
+    ensures inside { OnOk result (AllByRecursion (FunctionInside cursor.old.bytes.now) (map function_entry functions.new)) }
     ensures behind { OnOk result (AllByRecursion (FunctionBehind (length cursor.old.bytes.now - cursor.new.offset)) (map function_entry functions.new)) }
     ensures takes { OnOk result (MainTakes (map function_entry functions.new)) }
     ensures sum { IfOk result (λ size. code_bytes (map function_entry_of (map function_entry functions.new)) ≡ size) }

@@ -3,7 +3,7 @@ ghost use Rattle.std.specs.Prelude.{◌≡◌, ◌+◌, ◌≤◌, true, map, le
 ghost use Rattle.std.specs.List.{AllByRecursion, list_all};
 ghost use Rattle.bytecode.specs.Outcome.{told};
 ghost use Rattle.reader.specs.Layout.{is_letter, is_record, record_at, function_sheet_at, function_arguments, native_sheet_at, native_arguments, sheet_at};
-ghost use Rattle.reader.specs.Entries.{sort_number, signature_of, function_entry, function_entry_of, function_of, native_entry, native_entry_of, native_of, FunctionFits, FunctionLettered, MainGives, NativeFits, NativeLettered};
+ghost use Rattle.reader.specs.Entries.{sort_number, signature_of, function_entry, function_entry_of, function_of, native_entry, native_entry_of, native_of, FunctionFits, FunctionLettered, FunctionLettersInside, LettersInside, MainGives, NativeFits, NativeLettered, NativeLettersInside};
 
 use crate::field::{Cursor, refused};
 use crate::package::{Function, Native, Signature, WORD};
@@ -52,6 +52,7 @@ fn read_record<'a>(
     ensures met { record_at cursor.old.bytes.now (sort_number sort) main arguments cursor.old.offset ≡ told (λ s. record { value = signature_of s; after = cursor.new.offset }) result }
     ensures lent { cursor.new.bytes.now ≡ cursor.old.bytes.now }
     ensures lettered { IfOk result (λ s. length s.argument_letters.now ≡ arguments) }
+    ensures inside { IfOk result (LettersInside cursor.old.bytes.now) }
     ensures gives { IfOk result (λ s. main ≡ true → s.result_letter ≡ 0x77) }
 {
     let wrong = refused(FieldFault::Sheet, cursor.offset());
@@ -78,6 +79,7 @@ fn read_function_sheet<'a>(
     ensures lent { cursor.new.bytes.now ≡ cursor.old.bytes.now }
     ensures kept { map function_entry functions.new ≡ map function_entry functions.old }
     ensures lettered { OnOk result (AllByRecursion FunctionLettered functions.new) }
+    ensures inside { OnOk result (AllByRecursion (FunctionLettersInside cursor.old.bytes.now) functions.new) }
     ensures gives { OnOk result (MainGives functions.new) }
 {
     for (index, function) in functions.iter_mut().enumerate() {
@@ -95,6 +97,7 @@ fn read_native_sheet<'a>(cursor: &mut Cursor<'a>, natives: &mut [Native<'a>]) ->
     ensures lent { cursor.new.bytes.now ≡ cursor.old.bytes.now }
     ensures kept { map native_entry natives.new ≡ map native_entry natives.old }
     ensures lettered { OnOk result (AllByRecursion NativeLettered natives.new) }
+    ensures inside { OnOk result (AllByRecursion (NativeLettersInside cursor.old.bytes.now) natives.new) }
 {
     for native in natives.iter_mut() {
         let arguments = native.entry.arguments as usize;
@@ -117,6 +120,8 @@ pub(crate) fn read_sheet<'a>(
     ensures lettered { OnOk result (AllByRecursion FunctionLettered functions.new) }
     ensures gives { OnOk result (MainGives functions.new) }
     ensures natives_lettered { OnOk result (AllByRecursion NativeLettered natives.new) }
+    ensures inside { OnOk result (AllByRecursion (FunctionLettersInside cursor.old.bytes.now) functions.new) }
+    ensures natives_inside { OnOk result (AllByRecursion (NativeLettersInside cursor.old.bytes.now) natives.new) }
 {
     read_function_sheet(cursor, functions)?;
     read_native_sheet(cursor, natives)?;

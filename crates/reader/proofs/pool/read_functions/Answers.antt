@@ -1,8 +1,8 @@
-use Rattle.std.proofs.Common.{◌≡◌, ◌<◌, ◌-◌, ◌∙◌, length, map, ap, arith}
+use Rattle.std.proofs.Common.{◌≡◌, ◌<◌, ◌-◌, ◌∙◌, length, map, ap, subst, arith}
 use Rattle.std.proofs.lemmas.Result.{err_from_is_err_and}
 use Rattle.std.proofs.lemmas.List.{take_all}
 use Rattle.reader.specs.Layout.{function_at, code_bytes}
-use Rattle.reader.specs.Entries.{function_entry, function_entry_of, FunctionFits, FunctionBehind}
+use Rattle.reader.specs.Entries.{function_entry, function_entry_of, FunctionFits, FunctionInside, FunctionBehind}
 use Rattle.reader.proofs.Repeating.{series_more, series_fault, series_end}
 use Rattle.reader.proofs.Turns.{read_same, entered_more, entered_all, entered_first, code_more, behind_less}
 use Rattle.reader.proofs.pool.read_functions.Goals as goal
@@ -31,6 +31,9 @@ loop-index-preserved c =
           read_same (λ bs. function_at bs c.loop-index.index c.loop-index.cursor.offset c.loop-index.code_size) bs _ _ c.loop-index.invariant.lent c.in_ok-function.ensures.met);
       lent = c.in_ok-function.ensures.lent ∙ c.loop-index.invariant.lent;
       fit = entered_all function_entry FunctionFits c.loop-index.functions c.loop-index.index _ l c.loop-index.invariant.fit c.in_ok-function.ensures.fits;
+      inside =
+          entered_all function_entry (FunctionInside bs) c.loop-index.functions c.loop-index.index _ l c.loop-index.invariant.inside
+          (subst (λ xs. FunctionInside xs c.in_ok-function.field-0) c.loop-index.invariant.lent c.in_ok-function.ensures.inside);
       behind =
           entered_all function_entry (FunctionBehind (length bs - c.read_function.new.cursor.offset)) c.loop-index.functions c.loop-index.index _ l
           (behind_less (length bs - c.loop-index.cursor.offset) (length bs - c.read_function.new.cursor.offset) _ (let k = c.in_ok-function.ensures.onward in omega arith) c.loop-index.invariant.behind)

@@ -1,8 +1,8 @@
-use Rattle.std.proofs.Common.{◌≡◌, ◌<◌, ◌∙◌, length, map, get_or, ap, refl, arith, eqb, eq-eqb}
+use Rattle.std.proofs.Common.{◌≡◌, ◌<◌, ◌∙◌, length, map, get_or, ap, refl, subst, arith, eqb, eq-eqb}
 use Rattle.std.proofs.lemmas.Result.{err_from_is_err_and}
 use Rattle.std.proofs.lemmas.List.{take_all}
 use Rattle.reader.specs.Layout.{record_at, function_arguments}
-use Rattle.reader.specs.Entries.{FunctionFits, signature_of, function_entry, function_entry_of, FunctionLettered}
+use Rattle.reader.specs.Entries.{FunctionFits, signature_of, function_entry, function_entry_of, FunctionLettered, LettersInside, FunctionLettersInside}
 use Rattle.reader.proofs.Repeating.{series_more, series_fault, series_end}
 use Rattle.reader.proofs.Turns.{no_function, read_same, filled_more, filled_all, filled_first, count_kept, kept_map, kept_at}
 use Rattle.reader.proofs.sheet.read_function_sheet.Goals as goal
@@ -40,6 +40,9 @@ loop-index-preserved c =
       lent = c.in_ok-function.ensures.lent ∙ c.loop-index.invariant.lent;
       kept = kept_map function_entry c.loop-index.functions c.args.functions.now c.loop-index.index _ _ refl c.loop-index.invariant.kept;
       lettered = filled_all FunctionLettered c.loop-index.functions c.loop-index.index _ l c.loop-index.invariant.lettered c.in_ok-function.ensures.lettered;
+      inside =
+          filled_all (FunctionLettersInside bs) c.loop-index.functions c.loop-index.index _ l c.loop-index.invariant.inside
+          (subst (λ xs. LettersInside xs c.in_ok-function.field-0) c.loop-index.invariant.lent c.in_ok-function.ensures.inside);
       gives = filled_first (λ f. f.signature.result_letter ≡ 0x77) c.loop-index.functions c.loop-index.index _ l c.loop-index.invariant.gives (λ z. c.in_ok-function.ensures.gives (eq-eqb c.loop-index.index 0 z));
     }
 

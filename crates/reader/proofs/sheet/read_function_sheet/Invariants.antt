@@ -1,7 +1,7 @@
 use Rattle.std.proofs.Common.{◌≡◌, eqb, map, length, get_or, take}
 use Rattle.std.specs.List.{AllByRecursion}
 use Rattle.reader.specs.Layout.{record_at, function_sheet_at, function_arguments}
-use Rattle.reader.specs.Entries.{signature_of, function_entry, function_entry_of, FunctionLettered, MainGives}
+use Rattle.reader.specs.Entries.{signature_of, function_entry, function_entry_of, FunctionLettered, FunctionLettersInside, MainGives}
 use Rattle.reader.proofs.Repeating.{onwards}
 use Rattle.reader.proofs.sheet.read_function_sheet.Given as goal
 
@@ -13,5 +13,6 @@ invariant-loop-index l = record {
   lent : l.cursor.bytes.now ≡ l.initial.cursor.bytes.now;
   kept : map function_entry l.functions ≡ map function_entry l.initial.functions;
   lettered : AllByRecursion FunctionLettered (take l.index l.functions);
+  inside : AllByRecursion (FunctionLettersInside l.initial.cursor.bytes.now) (take l.index l.functions);
   gives : MainGives (take l.index l.functions);
 }

@@ -1,8 +1,8 @@
-use Rattle.std.proofs.Common.{◌<◌, ◌∙◌, length, map, get_or, ap, refl, arith, false}
+use Rattle.std.proofs.Common.{◌<◌, ◌∙◌, length, map, get_or, ap, refl, subst, arith, false}
 use Rattle.std.proofs.lemmas.Result.{err_from_is_err_and}
 use Rattle.std.proofs.lemmas.List.{take_all}
 use Rattle.reader.specs.Layout.{record_at, native_arguments}
-use Rattle.reader.specs.Entries.{NativeFits, signature_of, native_entry, native_entry_of, NativeLettered}
+use Rattle.reader.specs.Entries.{NativeFits, signature_of, native_entry, native_entry_of, NativeLettered, LettersInside, NativeLettersInside}
 use Rattle.reader.proofs.Repeating.{series_more, series_fault, series_end}
 use Rattle.reader.proofs.Turns.{no_native, read_same, filled_more, filled_all, count_kept, kept_map, kept_at}
 use Rattle.reader.proofs.sheet.read_native_sheet.Goals as goal
@@ -40,6 +40,9 @@ loop-native-preserved c =
       lent = c.in_ok-native.ensures.lent ∙ c.loop-native.invariant.lent;
       kept = kept_map native_entry c.loop-native.natives c.args.natives.now c.loop-native.native-index _ _ refl c.loop-native.invariant.kept;
       lettered = filled_all NativeLettered c.loop-native.natives c.loop-native.native-index _ l c.loop-native.invariant.lettered c.in_ok-native.ensures.lettered;
+      inside =
+          filled_all (NativeLettersInside bs) c.loop-native.natives c.loop-native.native-index _ l c.loop-native.invariant.inside
+          (subst (λ xs. LettersInside xs c.in_ok-native.field-0) c.loop-native.invariant.lent c.in_ok-native.ensures.inside);
     }
 
 pub returns-clause-met : goal.returns-clause-met

@@ -1,7 +1,7 @@
 use Rattle.std.proofs.Common.{◌≡◌, false, map, length, get_or, take}
 use Rattle.std.specs.List.{AllByRecursion}
 use Rattle.reader.specs.Layout.{record_at, native_sheet_at, native_arguments}
-use Rattle.reader.specs.Entries.{signature_of, native_entry, native_entry_of, NativeLettered}
+use Rattle.reader.specs.Entries.{signature_of, native_entry, native_entry_of, NativeLettered, NativeLettersInside}
 use Rattle.reader.proofs.Repeating.{onwards}
 use Rattle.reader.proofs.sheet.read_native_sheet.Given as goal
 
@@ -13,4 +13,5 @@ invariant-loop-native l = record {
   lent : l.cursor.bytes.now ≡ l.initial.cursor.bytes.now;
   kept : map native_entry l.natives ≡ map native_entry l.initial.natives;
   lettered : AllByRecursion NativeLettered (take l.native-index l.natives);
+  inside : AllByRecursion (NativeLettersInside l.initial.cursor.bytes.now) (take l.native-index l.natives);
 }
