@@ -95,7 +95,7 @@ fitting_of p =
       function_count = fs;
       native_count = ns;
       words = λ k. subst (λ x. x < 2 ^ 32) (sym (get_or-map integer_of p.integers.now k [])) (p.front.words k);
-      strings = let a = p.front.strings_inside in let b = p.front.short in omega arith;
+      strings = let a = p.front.strings_few in let b = p.front.short in omega arith;
       strings_end = p.front.strings_end;
       formed = All-from_get_or FunctionFormed (program_of p).functions no_function (λ i l. function_at p i (omega arith));
       natives_formed = All-from_get_or NativeFormed (program_of p).natives no_native (λ i l. native_at p i (omega arith));

@@ -1,5 +1,5 @@
 -- Where the letters of a record stand in the package, and what is known of all functions and natives when they are put into one.
-use Rattle.std.proofs.Common.{◌≡◌, ℕ, ◌+◌, ◌-◌, ◌≤◌, Bool, true, false, cond, leb, List, ◌++◌, map, length, get_or, take, drop, sym, refl, ap, ◌∙◌, subst, arith, leb-true, length-append}
+use Rattle.std.proofs.Common.{◌≡◌, ℕ, ◌+◌, ◌-◌, ◌*◌, ◌≤◌, Bool, true, false, cond, leb, List, ◌++◌, map, length, get_or, take, drop, sym, refl, ap, ◌∙◌, subst, arith, leb-true, length-append}
 use Rattle.std.proofs.lemmas.List.{drop-take, drop-drop, take_rest, get_or-take, get_or-drop, length-take-le, length-drop}
 use Rattle.std.proofs.lemmas.List.Elements.{All-from_recursion}
 use Rattle.std.proofs.Math.Seq.{take-append_seam}
@@ -10,7 +10,7 @@ use Rattle.reader.specs.Fields.{byte, bytes_from, bytes_at}
 use Rattle.reader.specs.declared.package.Function.{Function}
 use Rattle.reader.specs.declared.package.Native.{Native}
 use Rattle.reader.specs.Layout.{code_bytes}
-use Rattle.reader.specs.Entries.{LettersInside, function_entry, function_entry_of, native_entry, FunctionFits, FunctionBehind, FunctionLettered, FunctionsKnown, MainTakes, MainGives, NativeFits, NativeLettered, NativesKnown}
+use Rattle.reader.specs.Entries.{FrontFits, FrontRead, LettersInside, function_entry, function_entry_of, native_entry, FunctionFits, FunctionBehind, FunctionLettered, FunctionsKnown, MainTakes, MainGives, NativeFits, NativeLettered, NativesKnown}
 
 found_block : (bs block : List ℕ) (p m : ℕ) → bytes_at bs p m ≡ good block → (p + m ≤ length bs) × (block ≡ take m (drop p bs))
 found_block bs block p m e = go (leb (p + m) (length bs)) refl e
@@ -80,7 +80,21 @@ module _ {X : Type 0} (P : List ℕ → X → Type 0) (bs cs : List ℕ) (same :
 pub room_kept : {X : Type 0} (n m : ℕ) (ys zs : List X) → length ys ≡ n → n ≤ m → length zs ≡ m → length (ys ++ drop n zs) ≡ m
 room_kept n m ys zs e l k = omega (arith, length-append ys (drop n zs), length-drop n zs)
 
--- ## What is known of the functions and the natives that were read
+-- ## What is known of what was read
+
+pub front_fits : (bs : List ℕ) (integers : List (List ℕ)) (strings : List ℕ) → FrontRead bs integers strings → FrontFits bs integers strings
+front_fits bs integers strings f =
+    let a = f.integers_inside in
+    let b = f.strings_inside in
+    record {
+      short = f.short;
+      integers_few = omega arith;
+      integers_inside = ∣ (8, record { inside = f.integers_inside; there = f.integers_there }) ∣₁;
+      words = f.words;
+      strings_few = omega arith;
+      strings_inside = ∣ (10 + 4 * length integers, record { inside = f.strings_inside; there = f.strings_there }) ∣₁;
+      strings_end = f.strings_end;
+    }
 
 module _ (n : ℕ) (xs ys before rest : List Function) (l : length xs ≡ n) (e : length ys ≡ n) (k : map function_entry ys ≡ map function_entry (take n (xs ++ before))) where
   entries : map function_entry ys ≡ map function_entry xs

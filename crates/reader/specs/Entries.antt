@@ -47,15 +47,33 @@ native_entry f = f.entry
 
 -- ## What is known of them
 
--- a package of at most 16,384 bytes; the integers stand in it from offset 8 on, the strings behind them and their count; integers are
--- words; strings end with 0
+-- integers stand in the package from an offset on, and so do strings
+pub record IntegersAt (bs : List ℕ) (integers : List (List ℕ)) (p : ℕ) : Type 0 where
+  pub inside : p + 4 * length integers ≤ length bs
+  pub there : integers ≡ first_chunks 4 (length integers) (drop p bs)
+
+pub record StringsAt (bs strings : List ℕ) (p : ℕ) : Type 0 where
+  pub inside : p + length strings ≤ length bs
+  pub there : strings ≡ bytes_from bs p (length strings)
+
+-- a package of at most 16,384 bytes, the integers and the strings inside it; integers are words; strings end with 0
 pub record FrontFits (bs : List ℕ) (integers : List (List ℕ)) (strings : List ℕ) : Type 0 where
   pub short : length bs ≤ 16384
-  pub integers_there : integers ≡ first_chunks 4 (length integers) (drop 8 bs)
-  pub integers_inside : 8 + 4 * length integers ≤ length bs
+  pub integers_few : 4 * length integers ≤ length bs
+  pub integers_inside : ∥ ((p : ℕ) × IntegersAt bs integers p) ∥₁
   pub words : (k : ℕ) → integer_of (slice_index_or integers k []) < 2 ^ 32
-  pub strings_there : strings ≡ bytes_from bs (10 + 4 * length integers) (length strings)
+  pub strings_few : length strings ≤ length bs
+  pub strings_inside : ∥ ((p : ℕ) × StringsAt bs strings p) ∥₁
+  pub strings_end : 0 < length strings → byte strings (length strings - 1) ≡ 0
+
+-- the same where they stand when they were read: integers from offset 8 on, strings behind them and their count
+pub record FrontRead (bs : List ℕ) (integers : List (List ℕ)) (strings : List ℕ) : Type 0 where
+  pub short : length bs ≤ 16384
+  pub integers_inside : 8 + 4 * length integers ≤ length bs
+  pub integers_there : integers ≡ first_chunks 4 (length integers) (drop 8 bs)
+  pub words : (k : ℕ) → integer_of (slice_index_or integers k []) < 2 ^ 32
   pub strings_inside : 10 + 4 * length integers + length strings ≤ length bs
+  pub strings_there : strings ≡ bytes_from bs (10 + 4 * length integers) (length strings)
   pub strings_end : 0 < length strings → byte strings (length strings - 1) ≡ 0
 
 -- a function within the limits, its code inside the package

@@ -4,7 +4,7 @@
 ghost use Rattle.std.specs.Prelude.{◌≡◌, map, IfOk};
 ghost use Rattle.bytecode.specs.Outcome.{told};
 ghost use Rattle.reader.specs.Layout.{magic_at, front_at, package_at};
-ghost use Rattle.reader.specs.Entries.{integer_of, FrontFits};
+ghost use Rattle.reader.specs.Entries.{integer_of, FrontRead};
 ghost use Rattle.reader.specs.View.{program_of, Fitting};
 ghost use Rattle.reader.specs.Samples.{Samples};
 
@@ -46,7 +46,7 @@ struct Front<'a> {
 fn read_front<'a>(bytes: &'a [u8]) -> Result<Front<'a>, Refusal>
     ensures met { front_at bytes.now ≡ told (λ front. record { value = record { integers = map integer_of front.integers.now; strings = front.strings.now }; after = front.cursor.offset }) result }
     ensures lent { IfOk result (λ front. front.cursor.bytes.now ≡ bytes.now) }
-    ensures fits { IfOk result (λ front. FrontFits bytes.now front.integers.now front.strings.now) }
+    ensures fits { IfOk result (λ front. FrontRead bytes.now front.integers.now front.strings.now) }
 {
     if bytes.len() > LENGTH_LIMIT {
         return Err(refused(FieldFault::Limit, 0));
@@ -72,6 +72,7 @@ pub fn read_package<'a>(bytes: &'a [u8]) -> Result<Package<'a>, Refusal>
     ensures met { package_at bytes.now ≡ told program_of result }
     ensures lent { IfOk result (λ p. p.bytes.now ≡ bytes.now) }
     ensures fitting { IfOk result Fitting }
+    ensures front { IfOk result (λ p. FrontRead bytes.now p.integers.now p.strings.now) }
 {
     let Front {
         integers,

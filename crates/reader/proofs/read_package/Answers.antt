@@ -1,7 +1,7 @@
 use Rattle.std.proofs.Common.{◌≡◌, ◌-◌, ◌≤◌, ◌∙◌, length, ap, refl, arith, length-take-le}
 use Rattle.reader.specs.Entries.{function_entry, FunctionInside, FunctionLettersInside, NativeLettersInside}
 use Rattle.reader.proofs.Fits.{fitting_of}
-use Rattle.reader.proofs.Lettering.{taken_long, all_moved, mapped_moved, room_kept, functions_joined, natives_joined}
+use Rattle.reader.proofs.Lettering.{taken_long, all_moved, mapped_moved, room_kept, front_fits, functions_joined, natives_joined}
 use Rattle.reader.proofs.Turns.{behind_less}
 use Rattle.reader.proofs.read_package.Goals as goal
 
@@ -53,3 +53,6 @@ invariant_of-result-clause-natives_known c =
     let e : length c.read_sheet.new.natives ≡ c.in_ok-native_count.field-0 = c.read_sheet.auto.natives ∙ taken_long _ c.read_natives.new.natives _ f in
     natives_joined c.in_ok-native_count.field-0 c.read_natives.new.natives c.read_sheet.new.natives _ _ f e c.in_ok-read_sheet.ensures.natives_kept c.in_ok-read_natives.ensures.fit
     c.in_ok-read_sheet.ensures.natives_lettered
+
+pub invariant_of-result-clause-front : goal.invariant_of-result-clause-front
+invariant_of-result-clause-front c = front_fits _ _ _ c.in_ok-integers.ensures.fits
