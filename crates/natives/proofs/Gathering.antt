@@ -55,19 +55,21 @@ kept_or_not Reference p m ps ns e r = ap₂ (λ x xs. x ∷ xs) e r
 
 -- the numbers of references, each slot with its number
 pub numbers_counted : (ks rs : List Kind) (mem ls : List ℕ) (i : ℕ) → length rs ≡ length ls
-    → ((j : ℕ) → get_or rs j Unknown ≡ get_or ks (i + j) Unknown) → ((j : ℕ) → get_or ls j 0 ≡ get_or mem (i + j) 0)
+    → ((j : ℕ) → j < length rs → eq_kind (get_or rs j Unknown) Reference ≡ eq_kind (get_or ks (i + j) Unknown) Reference)
+    → ((j : ℕ) → get_or ls j 0 ≡ get_or mem (i + j) 0)
     → map (λ p. p.1) (filter (λ p. eq_kind (get_or ks p.0 Unknown) Reference) (enumerate_from i ls)) ≡ numbers_from rs mem i
 numbers_counted ks [] mem [] i e f g = refl
 numbers_counted ks [] mem (l ∷ ls) i e f g = absurd (omega arith)
 numbers_counted ks (k ∷ rs) mem [] i e f g = absurd (omega arith)
 numbers_counted ks (k ∷ rs) mem (l ∷ ls) i e f g =
     let rest = numbers_counted ks rs mem ls (i + 1) (omega arith)
-    (λ j. f (suc j) ∙ ap (λ n. get_or ks n Unknown) (let z : i + suc j ≡ i + 1 + j = omega arith in z))
+    (λ j l. f (suc j) (omega arith) ∙ ap (λ n. eq_kind (get_or ks n Unknown) Reference) (let z : i + suc j ≡ i + 1 + j = omega arith in z))
     (λ j. g (suc j) ∙ ap (λ n. get_or mem n 0) (let z : i + suc j ≡ i + 1 + j = omega arith in z)) in
-    let here : k ≡ get_or ks i Unknown = f 0 ∙ ap (λ n. get_or ks n Unknown) (let z : i + 0 ≡ i = omega arith in z) in
+    let here : eq_kind k Reference ≡ eq_kind (get_or ks i Unknown) Reference =
+    f 0 (omega arith) ∙ ap (λ n. eq_kind (get_or ks n Unknown) Reference) (let z : i + 0 ≡ i = omega arith in z) in
     let slot : l ≡ get_or mem i 0 = g 0 ∙ ap (λ n. get_or mem n 0) (let z : i + 0 ≡ i = omega arith in z) in
     let ps : List (ℕ × ℕ) = filter (λ p. eq_kind (get_or ks p.0 Unknown) Reference) (enumerate_from (i + 1) ls) in
-    ap (λ h. map (λ p. p.1) (cond (eq_kind h Reference) ((i, l) ∷ ps) ps)) (sym here)
+    ap (λ b. map (λ p. p.1) (cond b ((i, l) ∷ ps) ps)) (sym here)
     ∙ kept_or_not k (i, l) (get_or mem i 0) ps (numbers_from rs mem (i + 1)) slot rest
     ∙ ap (λ n. number_if k (get_or mem i 0) (numbers_from rs mem n)) (let z : i + 1 ≡ suc i = omega arith in z)
 

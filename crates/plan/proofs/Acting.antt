@@ -6,7 +6,7 @@ use Rattle.bytecode.specs.declared.instruction.Instruction.{Instruction}
 use Rattle.bytecode.specs.declared.instruction.Instruction.TheVariants.{Nop, Pop, Dup, Swap, AconstNull, Aldc, Bipush, Ildc, Vload, Vstore, Binary, IfCmpeq, IfCmpne, IfIcmp, Goto, Invokestatic, Invokenative, Return, New, Newarray, Arraylength, Aaddf, Aadds, Imload, Cmload, Amload, Imstore, Cmstore, Amstore}
 use Rattle.bytecode.specs.Outcome.{Fault, Out, bad, good}
 use Rattle.bytecode.specs.Program.{Function, Native, Program}
-use Rattle.plan.specs.Programs.{nth, function_at, variables_at, AllKnown, WellFormed}
+use Rattle.plan.specs.Programs.{nth, function_at, variables_at, AllKnown, KnownSignatures, WellFormed}
 use Rattle.plan.specs.Shapes.{Shape, Reach, Alike, Sized, eq_kind, eq_kinds}
 use Rattle.plan.specs.Effects.{Act, fixed, load, store, pop, dup, swap, alike, give, within, call_static, call_native, act_of, check, room, replace, popped, doubled, swapped, compared, returned, loaded, stored, keeping, perform, performed, effect}
 use Rattle.plan.proofs.Outcomes.{On}
@@ -191,7 +191,10 @@ module _ (f p : ℕ) where
   performed_keeps V None s l h = tt
   performed_keeps V (Some a) s l h = perform_keeps V a s (l a refl) h
 
--- ## The acts of a well_formed program leave known kinds
+-- ## The acts of a program whose signatures are known leave known kinds
+
+pub formed_known : (P : Program) → WellFormed P → KnownSignatures P
+formed_known P formed = record { functions = λ f g e. (formed.functions f g e).signature; natives = formed.natives }
 
 -- an act that there may be
 abbrev MayLeave : Option Act → Type 0
@@ -205,14 +208,14 @@ may_within c n a h = go (ltb c n)
     go true = h
     go false = tt
 
-module _ (P : Program) (formed : WellFormed P) where
+module _ (P : Program) (known : KnownSignatures P) where
   may_static : (c : ℕ) (o : Option Function) → nth P.functions c ≡ o → MayLeave (call_static o)
   may_static c None e = tt
-  may_static c (Some g) e = ((formed.functions c g e).signature.result, tt)
+  may_static c (Some g) e = ((known.functions c g e).result, tt)
 
   may_native : (c : ℕ) (o : Option Native) → nth P.natives c ≡ o → MayLeave (call_native o)
   may_native c None e = tt
-  may_native c (Some g) e = ((formed.natives c g e).result, tt)
+  may_native c (Some g) e = ((known.natives c g e).result, tt)
 
   may_act : (g : Function) (i : Instruction) → MayLeave (act_of P g i)
   may_act g Nop = tt

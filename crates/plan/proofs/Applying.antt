@@ -4,7 +4,7 @@ use Rattle.bytecode.specs.declared.instruction.Instruction.{Instruction}
 use Rattle.bytecode.specs.Instructions.{decode_at}
 use Rattle.bytecode.specs.Outcome.{Out, bad, good, bind}
 use Rattle.bytecode.specs.Program.{Program}
-use Rattle.plan.specs.Programs.{code_at, variables_at, WellFormed}
+use Rattle.plan.specs.Programs.{code_at, variables_at, KnownSignatures}
 use Rattle.plan.specs.Shapes.{Shape, Reach, Sized}
 use Rattle.plan.specs.Effects.{effect}
 use Rattle.plan.specs.Plans.{Plan, successors, shape_at, Hits, Lands, Passes}
@@ -61,10 +61,10 @@ module _ (P : Program) (f : ℕ) where
       go None h = h
       go (Some i) h = finer_lands (effect P f p i s) (effect P f p i t) (successors p i) plan (effect_mono P f p i s t r) h
 
-  pub apply_keeps : WellFormed P → (p : ℕ) (s : Shape) → Sized (variables_at P f) s → On (Unit {0}) (λ r. Sized (variables_at P f) r.0) (apply P f p s)
+  pub apply_keeps : KnownSignatures P → (p : ℕ) (s : Shape) → Sized (variables_at P f) s → On (Unit {0}) (λ r. Sized (variables_at P f) r.0) (apply P f p s)
   unfolding apply
-  apply_keeps formed p s h = go (decode_at (code_at P f) p)
+  apply_keeps known p s h = go (decode_at (code_at P f) p)
     where
       go : (o : Option Instruction) → On (Unit {0}) (λ r. Sized (variables_at P f) r.0) (applied P f p s o)
       go None = tt
-      go (Some i) = on_bind _ (Sized (variables_at P f)) _ (effect P f p i s) _ (effect_keeps P formed f p i s h) (λ u g. g)
+      go (Some i) = on_bind _ (Sized (variables_at P f)) _ (effect P f p i s) _ (effect_keeps P known f p i s h) (λ u g. g)

@@ -13,6 +13,7 @@ use Rattle.plan.specs.Plans.{marks_in, starts_at, Hits, entry_of, Fullest}
 use Rattle.plan.specs.Sweep.{Table, plan_of, count_true, Answer, most, sweep_marks, sweep_function, decode_from, decode_all, Judgement, after, sweep_from, sweep_all, judge}
 use Rattle.plan.specs.Judgement.{Settled, Planless, Swept, most_from, most_takes, Accepted, Decodes, Answers, Refused, Says, Judged, TakesSuffice, StartsStand, bytes_from, TakesWithin}
 use Rattle.plan.proofs.Outcomes.{On, on_good, good_bad}
+use Rattle.plan.proofs.Acting.{formed_known}
 use Rattle.plan.proofs.Starting.{starts_marked}
 use Rattle.plan.proofs.Placing.{InFunction, starts_in_function, sweep_in_function}
 use Rattle.plan.proofs.Sweeping.{Finished, sweep_fuel, sweep_fullest}
@@ -80,7 +81,7 @@ sweep_swept P formed f = go (starts_of f (code_at P f)) refl (starts_marked (cod
     go (bad x) e m = undecoded_planless P f x e
     go (good marks) e m =
         let there : starts_at P f ≡ marks = ap marks_in e in
-        swept marks there m (sweep_marks P f marks) (sweep_fullest P formed f marks there (entry_sized (function_at P f) (formed_at P formed f)))
+        swept marks there m (sweep_marks P f marks) (sweep_fullest P (formed_known P formed) f marks there (entry_sized (function_at P f) (formed_at P formed f)))
 
 -- ## Functions in order
 
@@ -265,7 +266,7 @@ module _ (P : Program) where
 
 pub takes_suffice : TakesSuffice
 takes_suffice P formed f marks e k l =
-    sweep_fuel P formed f marks (ap marks_in e) (entry_sized (function_at P f) (formed_at P formed f)) k l
+    sweep_fuel P (formed_known P formed) f marks (ap marks_in e) (entry_sized (function_at P f) (formed_at P formed f)) k l
 
 pub starts_stand : StartsStand
 starts_stand f code marks e = on_good (Unit {0}) (Marked code) (starts_of f code) marks e (starts_marked code f)

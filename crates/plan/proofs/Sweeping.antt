@@ -3,7 +3,7 @@ use Rattle.std.proofs.Common.{◌≡◌, ℕ, zero, suc, ◌+◌, ◌<◌, ◌�
 use lib.ListN.{length-map}
 use Rattle.bytecode.specs.Outcome.{Out, bad, good, bind}
 use Rattle.bytecode.specs.Program.{Program}
-use Rattle.plan.specs.Programs.{function_at, variables_at, WellFormed}
+use Rattle.plan.specs.Programs.{function_at, variables_at, KnownSignatures}
 use Rattle.plan.specs.Shapes.{Shape, Reach, Merged, same, changed, clash, merge, Sized}
 use Rattle.plan.specs.Plans.{Plan, starts_at, shape_at, Hits, Lands, entry_of, Good, Fullest}
 use Rattle.plan.specs.Sweep.{Cell, off, blank, marked, settled, Table, at, shape_of, plan_of, fresh, merged, join, put, spread, lowest, apply, visit, Answer, turn, run, most, sweep_within, sweep_marks}
@@ -14,7 +14,7 @@ use Rattle.plan.proofs.Weighing.{over_set, not_off_within, Unmarked, lowest_only
 
 -- ## Takes
 
-module _ (P : Program) (formed : WellFormed P) (f : ℕ) (marks : List Bool) where
+module _ (P : Program) (known : KnownSignatures P) (f : ℕ) (marks : List Bool) where
   -- what holds of the table from the first take on
   record Inv (T : Table) : Type 0 where
     sized : SizedAll (variables_at P f) T
@@ -33,7 +33,7 @@ module _ (P : Program) (formed : WellFormed P) (f : ℕ) (marks : List Bool) whe
       → On (Unit {0}) (λ U. SizedAll (variables_at P f) U × (total (variables_at P f) U < total (variables_at P f) T)) (visit P f T p s)
   unfolding visit
   visit_lighter T p s e z =
-      on_bind _ (λ r. Sized (variables_at P f) r.0) _ (apply P f p s) _ (apply_keeps P f formed p s (rw e at (z p)))
+      on_bind _ (λ r. Sized (variables_at P f) r.0) _ (apply P f p s) _ (apply_keeps P f known p s (rw e at (z p)))
       (λ r h. on_map _ (λ U. Step (variables_at P f) (set T p (settled s)) U × Lands r.0 (plan_of U) r.1) _ (spread f p r.0 r.1 (set T p (settled s)))
       (λ U j. (λ q. (j.0.moves q).sized (sized q), omega (arith, total_set (variables_at P f) T p (settled s) lt, j.0.lighter, ap (weigh (variables_at P f)) e)))
       (spread_steps (variables_at P f) f p r.0 r.1 (set T p (settled s)) sized h))
@@ -47,7 +47,7 @@ module _ (P : Program) (formed : WellFormed P) (f : ℕ) (marks : List Bool) whe
   visit_inv : (T : Table) (p : ℕ) (s : Shape) → at T p ≡ marked s → Inv T
       → On (Unit {0}) (λ U. Inv U × (total (variables_at P f) U < total (variables_at P f) T)) (visit P f T p s)
   unfolding visit
-  visit_inv T p s e v = go (apply P f p s) refl (apply_keeps P f formed p s (rw e at (v.sized p)))
+  visit_inv T p s e v = go (apply P f p s) refl (apply_keeps P f known p s (rw e at (v.sized p)))
     where
       V : ℕ
       V = variables_at P f
@@ -267,8 +267,8 @@ pub record Finished (marks : List Bool) (T : Table) : Type 0 where
   pub unmarked : Unmarked T
   pub size : length T ≡ length marks
 
-module _ (P : Program) (formed : WellFormed P) (f : ℕ) (marks : List Bool) (there : starts_at P f ≡ marks) where
-  inv_good : (T : Table) → Inv P formed f marks T → Unmarked T → Good P f (plan_of T)
+module _ (P : Program) (known : KnownSignatures P) (f : ℕ) (marks : List Bool) (there : starts_at P f ≡ marks) where
+  inv_good : (T : Table) → Inv P known f marks T → Unmarked T → Good P f (plan_of T)
   inv_good T v n =
       record {
         begins = v.begins;
@@ -294,7 +294,7 @@ module _ (P : Program) (formed : WellFormed P) (f : ℕ) (marks : List Bool) (th
       go p s (settled t) e h = v.sound p s (let d : t ≡ s = cc in cc)
 
   module _ (entry : Sized (variables_at P f) (entry_of (function_at P f))) where
-    first_inv : On (Unit {0}) (λ U. Inv P formed f marks U × (total (variables_at P f) U ≤ most P f marks))
+    first_inv : On (Unit {0}) (λ U. Inv P known f marks U × (total (variables_at P f) U ≤ most P f marks))
         (put f 0 (map fresh marks) (Some 0) (entry_of (function_at P f)))
     first_inv = on_map _ (λ U. Step (variables_at P f) (map fresh marks) U × Hits (entry_of (function_at P f)) (plan_of U 0)) _
         (put f 0 (map fresh marks) (Some 0) (entry_of (function_at P f)))
@@ -318,28 +318,28 @@ module _ (P : Program) (formed : WellFormed P) (f : ℕ) (marks : List Bool) (th
         unsettled p s (inl e) d = cc
         unsettled p s (inr e) d = cc
 
-    sweep_ends : On (Unit {0}) (λ r. Inv P formed f marks r.0 × Unmarked r.0 × (r.1 ≤ most P f marks)) (sweep_marks P f marks)
+    sweep_ends : On (Unit {0}) (λ r. Inv P known f marks r.0 × Unmarked r.0 × (r.1 ≤ most P f marks)) (sweep_marks P f marks)
     unfolding sweep_within
     sweep_ends =
-        on_bind _ (λ U. Inv P formed f marks U × (total (variables_at P f) U ≤ most P f marks)) _ (put f 0 (map fresh marks) (Some 0) (entry_of (function_at P f))) _ first_inv
-        (λ U j. on_map _ (Ended P formed f marks 0 U) _ (run P f (most P f marks) 0 U)
+        on_bind _ (λ U. Inv P known f marks U × (total (variables_at P f) U ≤ most P f marks)) _ (put f 0 (map fresh marks) (Some 0) (entry_of (function_at P f))) _ first_inv
+        (λ U j. on_map _ (Ended P known f marks 0 U) _ (run P f (most P f marks) 0 U)
         (λ r w. (w.inv, w.unmarked, omega (arith, w.takes, j.1)))
-        (run_ends P formed f marks (most P f marks) 0 U j.0 j.1))
+        (run_ends P known f marks (most P f marks) 0 U j.0 j.1))
 
     pub sweep_fuel : (k : ℕ) → most P f marks ≤ k → sweep_within P f k marks ≡ sweep_marks P f marks
     unfolding sweep_within
     sweep_fuel k l = go (put f 0 (map fresh marks) (Some 0) (entry_of (function_at P f))) first_inv
       where
-        go : (r : Out Table) → On (Unit {0}) (λ U. Inv P formed f marks U × (total (variables_at P f) U ≤ most P f marks)) r
+        go : (r : Out Table) → On (Unit {0}) (λ U. Inv P known f marks U × (total (variables_at P f) U ≤ most P f marks)) r
             → bind r (run P f k 0) ≡ bind r (run P f (most P f marks) 0)
         go (bad x) h = refl
-        go (good U) h = run_fuel P formed f marks k (most P f marks) 0 U h.0.sized (omega (arith, h.1, l)) h.1
+        go (good U) h = run_fuel P known f marks k (most P f marks) 0 U h.0.sized (omega (arith, h.1, l)) h.1
 
     pub sweep_fullest : On ((Q : Plan) → Good P f Q → ⊥)
         (λ r. Fullest P f (plan_of r.0) × Finished marks r.0 × (r.1 ≤ most P f marks)) (sweep_marks P f marks)
     sweep_fullest = go (sweep_marks P f marks) sweep_ends (λ Q g. sweep_below P f Q g marks there)
       where
-        go : (r : Answer) → On (Unit {0}) (λ r. Inv P formed f marks r.0 × Unmarked r.0 × (r.1 ≤ most P f marks)) r
+        go : (r : Answer) → On (Unit {0}) (λ r. Inv P known f marks r.0 × Unmarked r.0 × (r.1 ≤ most P f marks)) r
             → ((Q : Plan) → Good P f Q → On ⊥ (λ r. AllBelow r.0 Q) r)
             → On ((Q : Plan) → Good P f Q → ⊥) (λ r. Fullest P f (plan_of r.0) × Finished marks r.0 × (r.1 ≤ most P f marks)) r
         go (bad x) h k = k

@@ -37,6 +37,11 @@ pub record KnownSignature (s : Signature) : Type 0 where
   pub arguments : AllKnown s.arguments
   pub result : Known s.result
 
+-- the kinds in all signatures of a program are known
+pub record KnownSignatures (P : Program) : Type 0 where
+  pub functions : (f : ℕ) (g : Function) → nth P.functions f ≡ Some g → KnownSignature g.signature
+  pub natives : (n : ℕ) (g : Native) → nth P.natives n ≡ Some g → KnownSignature g.signature
+
 -- at most 32 variables, the arguments among them
 pub record FormedFunction (g : Function) : Type 0 where
   pub signature : KnownSignature g.signature

@@ -9,14 +9,14 @@ use Rattle.shapes.proofs.Comparing.{entries_eq, all_same, differ, agree}
 use Rattle.shapes.proofs.Stacks.{stack_taken, has_shape, tidy_variables}
 use Rattle.shapes.specs.declared.table.ShapeMark.{ShapeMark}
 use Rattle.shapes.specs.declared.table.ShapeMark.TheVariants.{Blank, Start, Due, Shaped}
-use Rattle.shapes.specs.Stacks.{stack_of, Filled}
+use Rattle.shapes.specs.Stacks.{stack_of, Stacked}
 use Rattle.shapes.specs.Records.{cell_as}
 
 -- the stack of a record, and another's entries
-stacks_told : (d : ℕ) (xs ts st : List Kind) → Filled d xs → st ≡ reverse ts → eq_kinds (stack_of d xs) st ≡ entries_eq (take d xs) ts
+stacks_told : (d : ℕ) (xs ts st : List Kind) → Stacked d xs → st ≡ reverse ts → eq_kinds (stack_of d xs) st ≡ entries_eq (take d xs) ts
 stacks_told d xs ts st f e = all_same (stack_of d xs) st (take d xs) ts (stack_taken d xs (let z = f.low in omega (arith, f.long))) e
 
-module _ (d : ℕ) (xs ts st : List Kind) (f : Filled d xs) (e : st ≡ reverse ts) (r : Bool) (is : r ≡ not (entries_eq (take d xs) ts)) where
+module _ (d : ℕ) (xs ts st : List Kind) (f : Stacked d xs) (e : st ≡ reverse ts) (r : Bool) (is : r ≡ not (entries_eq (take d xs) ts)) where
   pub stacks_differ : r ≡ true → eq_kinds (stack_of d xs) st ≡ false
   stacks_differ h = stacks_told d xs ts st f e ∙ differ (entries_eq (take d xs) ts) r is h
 

@@ -3,3 +3,5 @@ pub mod Narrowing
 pub mod Stacks
 pub mod Joining
 pub mod Acting
+pub mod Knowing
+pub mod Filling

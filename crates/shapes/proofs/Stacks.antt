@@ -10,7 +10,7 @@ use Rattle.bytecode.specs.declared.kind.Kind.TheVariants.{Unknown}
 use Rattle.shapes.specs.declared.table.ShapeRecord.{ShapeRecord}
 use Rattle.shapes.specs.declared.table.ShapeMark.{ShapeMark}
 use Rattle.shapes.specs.declared.table.ShapeMark.TheVariants.{Blank, Start, Due, Shaped}
-use Rattle.shapes.specs.Stacks.{stack_of, entries_of, Filled}
+use Rattle.shapes.specs.Stacks.{stack_of, entries_of, Stacked}
 use Rattle.shapes.specs.Records.{shape_in, cell_as, cell_of, empty_record, working_record, HasShape, Tidy, Whole, Neat}
 use Rattle.shapes.specs.Entries.{length-stack, unknowns, entries_stack}
 
@@ -103,11 +103,11 @@ neat_is (r ∷ rs) h =
     let b : rs ≡ map working_record (map cell_of rs) = neat_is rs (λ k l. h (suc k) (omega arith)) in
     λ i. a i ∷ b i
 
--- ## What keeps entries filled
+-- ## What keeps entries stacked
 
 -- one more
-pub filled_pushed : (n : ℕ) (xs : List Kind) (k : Kind) → Filled n xs → n < 32 → Filled (n + 1) (set xs n k)
-filled_pushed n xs k f h =
+pub stacked_pushed : (n : ℕ) (xs : List Kind) (k : Kind) → Stacked n xs → n < 32 → Stacked (n + 1) (set xs n k)
+stacked_pushed n xs k f h =
     record {
       low = omega arith;
       long = length-set xs n k ∙ f.long;
@@ -115,8 +115,8 @@ filled_pushed n xs k f h =
     }
 
 -- one less
-pub filled_popped : (n : ℕ) (xs : List Kind) → Filled n xs → (n ≡ 0 → ⊥) → Filled (n - 1) (set xs (n - 1) Unknown)
-filled_popped n xs f h =
+pub stacked_popped : (n : ℕ) (xs : List Kind) → Stacked n xs → (n ≡ 0 → ⊥) → Stacked (n - 1) (set xs (n - 1) Unknown)
+stacked_popped n xs f h =
     record { low = (let z = f.low in omega arith); long = length-set xs (n - 1) Unknown ∙ f.long; unused = λ j l. go j l (dec_lt (n - 1) j) }
   where
     go : (j : ℕ) → n - 1 ≤ j → Dec (n - 1 < j) → get_or (set xs (n - 1) Unknown) j Unknown ≡ Unknown
@@ -126,19 +126,19 @@ filled_popped n xs f h =
         ap (λ i. get_or (set xs (n - 1) Unknown) i Unknown) e ∙ get_or-set_same xs (n - 1) Unknown Unknown (let z = f.low in omega (arith, f.long))
 
 -- another in place of one
-filled_replaced : (n : ℕ) (xs : List Kind) (i : ℕ) (k : Kind) → Filled n xs → i < n → Filled n (set xs i k)
-filled_replaced n xs i k f h =
+pub stacked_replaced : (n : ℕ) (xs : List Kind) (i : ℕ) (k : Kind) → Stacked n xs → i < n → Stacked n (set xs i k)
+stacked_replaced n xs i k f h =
     record { low = f.low; long = length-set xs i k ∙ f.long; unused = λ j l. get_or-set_other xs i j k Unknown (omega arith) ∙ f.unused j l }
 
 -- two exchanged
-pub filled_swapped : (n : ℕ) (xs : List Kind) → Filled n xs → 2 ≤ n → Filled n (exchanged xs (n - 1) (n - 2))
-filled_swapped n xs f h =
-    subst (Filled n) (swap_is xs (n - 1) (n - 2) Unknown (let z = f.low in omega (arith, f.long)) (let z = f.low in omega (arith, f.long)))
-    (filled_replaced n (set xs (n - 1) (get_or xs (n - 2) Unknown)) (n - 2) (get_or xs (n - 1) Unknown) (filled_replaced n xs (n - 1) (get_or xs (n - 2) Unknown) f (omega arith)) (omega arith))
+pub stacked_swapped : (n : ℕ) (xs : List Kind) → Stacked n xs → 2 ≤ n → Stacked n (exchanged xs (n - 1) (n - 2))
+stacked_swapped n xs f h =
+    subst (Stacked n) (swap_is xs (n - 1) (n - 2) Unknown (let z = f.low in omega (arith, f.long)) (let z = f.low in omega (arith, f.long)))
+    (stacked_replaced n (set xs (n - 1) (get_or xs (n - 2) Unknown)) (n - 2) (get_or xs (n - 1) Unknown) (stacked_replaced n xs (n - 1) (get_or xs (n - 2) Unknown) f (omega arith)) (omega arith))
 
 -- kinds copied to the front of an array of Unknown
-pub filled_copied : (ks xs : List Kind) → xs ≡ ks → length ks ≤ 32 → Filled (length ks) (xs ++ drop (length ks) (replicate 32 Unknown))
-filled_copied ks xs e few =
+pub stacked_copied : (ks xs : List Kind) → xs ≡ ks → length ks ≤ 32 → Stacked (length ks) (xs ++ drop (length ks) (replicate 32 Unknown))
+stacked_copied ks xs e few =
     record {
       low = few;
       long = omega (arith, length-append xs (drop (length ks) (replicate 32 Unknown)), length-drop (length ks) (replicate 32 Unknown), length-replicate 32 Unknown, ap length e);
@@ -170,7 +170,7 @@ whole_empty m =
     }
 
 -- the entries from a up to b made Unknown
-module _ (a b : ℕ) (xs ys : List Kind) (f : Filled b xs) (h : a ≤ b) (e : ys ≡ replicate (length (mid_of a (b - a) xs)) Unknown) where
+module _ (a b : ℕ) (xs ys : List Kind) (f : Stacked b xs) (h : a ≤ b) (e : ys ≡ replicate (length (mid_of a (b - a) xs)) Unknown) where
   mid_long : length (mid_of a (b - a) xs) ≡ b - a
   mid_long = mid_len a b xs (let z = f.low in omega (arith, f.long))
 
@@ -196,8 +196,8 @@ module _ (a b : ℕ) (xs ys : List Kind) (f : Filled b xs) (h : a ≤ b) (e : ys
       get_or-append_right ys (post_of a (b - a) xs) (b - a) (j - a) Unknown ys_long (omega arith) ∙
       ap (λ zs. get_or zs (j - a - (b - a)) Unknown) (Post-is a b xs h) ∙ get_or-drop b xs (j - a - (b - a)) Unknown ∙ ap (λ k. get_or xs k Unknown) i
 
-  pub filled_lowered : Filled a (put_mid a (b - a) xs ys)
-  filled_lowered =
+  pub stacked_lowered : Stacked a (put_mid a (b - a) xs ys)
+  stacked_lowered =
       record {
         low = (let z = f.low in omega arith);
         long = same_len_mid a (b - a) xs ys (ap length e ∙ length-replicate (length (mid_of a (b - a) xs)) Unknown) ∙ f.long;
@@ -211,6 +211,6 @@ module _ (a b : ℕ) (xs ys : List Kind) (f : Filled b xs) (h : a ≤ b) (e : ys
   pub stack_below : stack_of a (put_mid a (b - a) xs ys) ≡ stack_of a xs
   stack_below = stack_same a _ _ below
 
-pub ruleset copied = (stack_copied, filled_copied)
+pub ruleset copied = (stack_copied, stacked_copied)
 
-pub ruleset popped = (stack_popped, filled_popped)
+pub ruleset popped = (stack_popped, stacked_popped)

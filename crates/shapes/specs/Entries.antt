@@ -4,7 +4,7 @@ use native.Mathlib.Decide.{dec_lt}
 use Rattle.std.proofs.lemmas.List.{ext_get_or}
 use Rattle.bytecode.specs.declared.kind.Kind.{Kind}
 use Rattle.bytecode.specs.declared.kind.Kind.TheVariants.{Unknown}
-use Rattle.shapes.specs.Stacks.{stack_of, entries_of, Filled}
+use Rattle.shapes.specs.Stacks.{stack_of, entries_of, Stacked}
 
 pub length-stack : (n : ℕ) (xs : List Kind) → length (stack_of n xs) ≡ n
 length-stack zero xs = refl
@@ -43,7 +43,7 @@ entries_above zero xs k h = unknowns 32 k
 entries_above (suc n) xs k h =
     get_or-set_other (entries_of (stack_of n xs)) (length (stack_of n xs)) k (get_or xs n Unknown) Unknown (omega (arith, length-stack n xs)) ∙ entries_above n xs k (omega arith)
 
-pub entries_stack : (n : ℕ) (xs : List Kind) → Filled n xs → xs ≡ entries_of (stack_of n xs)
+pub entries_stack : (n : ℕ) (xs : List Kind) → Stacked n xs → xs ≡ entries_of (stack_of n xs)
 entries_stack n xs f = ext_get_or Unknown xs _ (f.long ∙ sym (length-entries (stack_of n xs))) (λ k i. go k (dec_lt k n))
   where
     go : (k : ℕ) → Dec (k < n) → get_or xs k Unknown ≡ get_or (entries_of (stack_of n xs)) k Unknown
@@ -51,8 +51,8 @@ entries_stack n xs f = ext_get_or Unknown xs _ (f.long ∙ sym (length-entries (
     go k (no i) = f.unused k (omega arith) ∙ sym (entries_above n xs k (omega arith))
 
 -- count and array, from the stack that they hold
-pub count_back : (n : ℕ) (xs : List Kind) → Filled n xs → length (stack_of n xs) ≡ n
+pub count_back : (n : ℕ) (xs : List Kind) → Stacked n xs → length (stack_of n xs) ≡ n
 count_back n xs f = length-stack n xs
 
-pub entries_back : (n : ℕ) (xs : List Kind) → Filled n xs → entries_of (stack_of n xs) ≡ xs
+pub entries_back : (n : ℕ) (xs : List Kind) → Stacked n xs → entries_of (stack_of n xs) ≡ xs
 entries_back n xs f = sym (entries_stack n xs f)

@@ -3,7 +3,7 @@ use Rattle.std.specs.Prelude.{◌≡◌, ℕ, ◌<◌, ◌⊎◌, List, [], leng
 use Rattle.bytecode.specs.declared.kind.Kind.TheVariants.{Unknown}
 use Rattle.plan.specs.Shapes.{Shape}
 use Rattle.plan.specs.Sweep.{Cell, off, blank, marked, settled}
-use Rattle.shapes.specs.Stacks.{stack_of, entries_of, Filled}
+use Rattle.shapes.specs.Stacks.{stack_of, entries_of, Stacked}
 use Rattle.shapes.specs.declared.table.ShapeMark.{ShapeMark}
 use Rattle.shapes.specs.declared.table.ShapeMark.TheVariants.{Blank, Start, Due, Shaped}
 use Rattle.shapes.specs.declared.table.ShapeRecord.{ShapeRecord}
@@ -61,7 +61,7 @@ HasShape Shaped = Unit {0}
 
 -- at most 32 entries are used, the others are Unknown
 pub record Tidy (r : ShapeRecord) : Type 0 where
-  pub stack : Filled r.depth r.stack
+  pub stack : Stacked r.depth r.stack
   pub wide : length r.variables ≡ 32
 
 -- and a record without a shape has nothing but its mark

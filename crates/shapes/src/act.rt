@@ -1,7 +1,8 @@
 // What instructions do to the stack and the variables of a shape.
 ghost use Rattle.std.specs.Prelude.{◌≡◌, ℕ, ◌≤◌};
+ghost use Rattle.plan.specs.Programs.{AllKnown};
 ghost use Rattle.plan.specs.Effects.{perform as perform_of, load as load_of, store as store_of};
-ghost use Rattle.shapes.specs.Acts.{act_in, told_at};
+ghost use Rattle.shapes.specs.Acts.{act_in, told_at, LeftKnown};
 ghost use Rattle.shapes.specs.Records.{shape_as};
 
 use crate::kinds::Kinds;
@@ -25,12 +26,13 @@ pub enum StackAct {
 }
 
 // A function has at most 32 variables: how many is the reader's to say, so a clause asks for it.
-#[tactic(auto, using(crate::proofs::Acting::kept), unfolding(plan::specs::Effects::perform))]
+#[tactic(auto, using(crate::proofs::Acting::kept, crate::proofs::Knowing::known_unless), unfolding(plan::specs::Effects::perform))]
 impl Shape {
     // Puts the kind of a variable on the stack.
     fn load(&mut self, variable: usize, count: usize) -> Result<(), CodeFault>
         requires few { count ≤ 32 }
-        ensures { (f p : ℕ) → perform_of f p count (load_of variable) (shape_as self.old) ≡ told_at f p (λ _. shape_as self.new) result }
+        ensures met { (f p : ℕ) → perform_of f p count (load_of variable) (shape_as self.old) ≡ told_at f p (λ _. shape_as self.new) result }
+        ensures known { AllKnown self.old.stack → AllKnown self.new.stack }
     {
         if variable >= count {
             return Err(CodeFault::Variable);
@@ -45,7 +47,8 @@ impl Shape {
     // Takes the top into a variable.
     fn store(&mut self, variable: usize, count: usize) -> Result<(), CodeFault>
         requires few { count ≤ 32 }
-        ensures { (f p : ℕ) → perform_of f p count (store_of variable) (shape_as self.old) ≡ told_at f p (λ _. shape_as self.new) result }
+        ensures met { (f p : ℕ) → perform_of f p count (store_of variable) (shape_as self.old) ≡ told_at f p (λ _. shape_as self.new) result }
+        ensures known { AllKnown self.old.stack → AllKnown self.new.stack }
     {
         if variable >= count {
             return Err(CodeFault::Variable);
@@ -55,9 +58,11 @@ impl Shape {
     }
 
     /// Does an act in a function with so many variables, or answers the first check that it fails.
+    /// A stack of words and references is one afterwards too, whatever the answer, unless the act itself leaves an `Unknown`.
     pub fn perform(&mut self, act: &StackAct, count: usize) -> Result<(), CodeFault>
         requires few { count ≤ 32 }
-        ensures { (f p : ℕ) → perform_of f p count (act_in act.now) (shape_as self.old) ≡ told_at f p (λ _. shape_as self.new) result }
+        ensures met { (f p : ℕ) → perform_of f p count (act_in act.now) (shape_as self.old) ≡ told_at f p (λ _. shape_as self.new) result }
+        ensures known { LeftKnown act.now → AllKnown self.old.stack → AllKnown self.new.stack }
     {
         match act {
             StackAct::Fixed(taken, left) => self.stack.replace(taken, *left),

@@ -1,6 +1,7 @@
 // Kinds by themselves, in the stack of a shape, and in its variables.
 ghost use Rattle.std.specs.Prelude.{◌≡◌, ℕ, ◌≤◌, [], ◌∷◌, reverse, not, length, MatchResult};
 ghost use Rattle.bytecode.specs.declared.refusal.CodeFault.TheVariants.{TooFew as TooFewFault};
+ghost use Rattle.plan.specs.Programs.{Known, AllKnown};
 ghost use Rattle.plan.specs.Effects.{room, replace as replace_of, doubled, swapped, compared, returned};
 ghost use Rattle.plan.specs.Shapes.{eq_kinds, meet, meet_kind};
 ghost use Rattle.shapes.specs.Acts.{one_or_none, told_at};
@@ -11,6 +12,8 @@ use std::marker::Model;
 
 /// A stack of at most 32 kinds; a contract sees the list of them, the top first.
 // The array is that of a record of the table, from which it is copied and to which it goes: so a count and unused entries stay.
+// It takes any kinds. That no entry in use is Unknown is therefore no invariant: the clause `known` of each method that changes it says that it stays
+// so, where what is put there is known.
 #[derive(Clone, Copy)]
 pub struct Kinds {
     pub count: usize,
@@ -21,14 +24,14 @@ pub struct Kinds {
 impl Model for Kinds {
     ghost use Rattle.std.specs.Prelude.{List, length};
     ghost use Rattle.bytecode.specs.declared.kind.Kind.{Kind};
-    ghost use Rattle.shapes.specs.Stacks.{stack_of, entries_of, Filled};
+    ghost use Rattle.shapes.specs.Stacks.{stack_of, entries_of, Stacked};
     ghost use Rattle.shapes.specs.Entries.{count_back, entries_back};
 
     ghost Value = { List Kind };
 
     ghost view = { λ s. stack_of s.count s.entries };
 
-    ghost invariant = { λ s. Filled s.count s.entries };
+    ghost invariant = { λ s. Stacked s.count s.entries };
 
     ghost inverse = { λ ks. record { count = length ks; entries = entries_of ks } };
 
@@ -78,9 +81,10 @@ impl Kinds {
     }
 
     // Puts a kind on top.
-    #[tactic(auto, using(crate::proofs::Acting::push_fine, crate::proofs::Stacks::filled_pushed))]
+    #[tactic(auto, using(crate::proofs::Acting::push_fine, crate::proofs::Stacks::stacked_pushed, crate::proofs::Knowing::known_pushed))]
     pub(crate) fn push(&mut self, kind: Kind) -> Result<(), CodeFault>
-        ensures { (f p : ℕ) → room f p (kind ∷ self.old) ≡ told_at f p (λ _. self.new) result }
+        ensures met { (f p : ℕ) → room f p (kind ∷ self.old) ≡ told_at f p (λ _. self.new) result }
+        ensures known { Known kind → AllKnown self.old → AllKnown self.new }
     {
         if self.count == 32 {
             return Err(CodeFault::TooMany);
@@ -91,9 +95,10 @@ impl Kinds {
     }
 
     // Takes the top.
-    #[tactic(auto, using(crate::proofs::Stacks::popped))]
+    #[tactic(auto, using(crate::proofs::Stacks::popped, crate::proofs::Knowing::known_popped))]
     pub(crate) fn pop(&mut self) -> Result<Kind, CodeFault>
-        ensures { MatchResult result (λ k. self.old ≡ k ∷ self.new) (λ e. (self.old ≡ []) × (e ≡ TooFewFault)) }
+        ensures met { MatchResult result (λ k. self.old ≡ k ∷ self.new) (λ e. (self.old ≡ []) × (e ≡ TooFewFault)) }
+        ensures known { AllKnown self.old → AllKnown self.new }
     {
         if self.count == 0 {
             return Err(CodeFault::TooFew);
@@ -107,7 +112,8 @@ impl Kinds {
     // Takes these kinds, which lie on top, and leaves one or none.
     #[tactic(auto, using(crate::proofs::Acting::replacing))]
     pub(crate) fn replace(&mut self, taken: &Kinds, left: Option<Kind>) -> Result<(), CodeFault>
-        ensures { (f p : ℕ) → replace_of f p taken.now (one_or_none left) self.old ≡ told_at f p (λ _. self.new) result }
+        ensures met { (f p : ℕ) → replace_of f p taken.now (one_or_none left) self.old ≡ told_at f p (λ _. self.new) result }
+        ensures known { AllKnown (one_or_none left) → AllKnown self.old → AllKnown self.new }
     {
         if self.count < taken.count {
             return Err(CodeFault::TooFew);
@@ -125,9 +131,10 @@ impl Kinds {
     }
 
     // Puts the top on top again.
-    #[tactic(auto, using(crate::proofs::Acting::doubled_top))]
+    #[tactic(auto, using(crate::proofs::Acting::doubled_top, crate::proofs::Knowing::known_top))]
     pub(crate) fn dup(&mut self) -> Result<(), CodeFault>
-        ensures { (f p : ℕ) → doubled f p self.old ≡ told_at f p (λ _. self.new) result }
+        ensures met { (f p : ℕ) → doubled f p self.old ≡ told_at f p (λ _. self.new) result }
+        ensures known { AllKnown self.old → AllKnown self.new }
     {
         if self.count == 0 {
             return Err(CodeFault::TooFew);
@@ -136,9 +143,10 @@ impl Kinds {
     }
 
     // Exchanges the two uppermost.
-    #[tactic(auto, using(crate::proofs::Acting::swap_fine, crate::proofs::Stacks::filled_swapped))]
+    #[tactic(auto, using(crate::proofs::Acting::swap_fine, crate::proofs::Stacks::stacked_swapped, crate::proofs::Knowing::known_swapped))]
     pub(crate) fn swap(&mut self) -> Result<(), CodeFault>
-        ensures { (f p : ℕ) → swapped f p self.old ≡ told_at f p (λ _. self.new) result }
+        ensures met { (f p : ℕ) → swapped f p self.old ≡ told_at f p (λ _. self.new) result }
+        ensures known { AllKnown self.old → AllKnown self.new }
     {
         if self.count < 2 {
             return Err(CodeFault::TooFew);
@@ -149,7 +157,8 @@ impl Kinds {
 
     // Takes two of one kind.
     pub(crate) fn take_alike(&mut self) -> Result<(), CodeFault>
-        ensures { (f p : ℕ) → compared f p self.old ≡ told_at f p (λ _. self.new) result }
+        ensures met { (f p : ℕ) → compared f p self.old ≡ told_at f p (λ _. self.new) result }
+        ensures known { AllKnown self.old → AllKnown self.new }
     {
         let top = self.pop()?;
         let under = self.pop()?;
@@ -161,7 +170,8 @@ impl Kinds {
 
     // Takes the only one, of this kind.
     pub(crate) fn give(&mut self, kind: Kind) -> Result<(), CodeFault>
-        ensures { (f p : ℕ) → returned f p kind self.old ≡ told_at f p (λ _. self.new) result }
+        ensures met { (f p : ℕ) → returned f p kind self.old ≡ told_at f p (λ _. self.new) result }
+        ensures known { AllKnown self.old → AllKnown self.new }
     {
         if self.count != 1 {
             return Err(CodeFault::Return);

@@ -5,3 +5,5 @@ pub mod act;
 pub mod kinds;
 pub mod shape;
 pub mod table;
+#[cfg(test)]
+mod tests;

@@ -1,7 +1,9 @@
 // The records of the table, and what becomes of a record that a shape reaches.
 ghost use Rattle.std.specs.Prelude.{◌≡◌, ℕ};
+ghost use Rattle.plan.specs.Programs.{AllKnown};
 ghost use Rattle.plan.specs.Sweep.{join as join_of};
 ghost use Rattle.shapes.specs.Acts.{told_between};
+ghost use Rattle.shapes.specs.Stacks.{Filled};
 ghost use Rattle.shapes.specs.Records.{shape_as, shape_in, cell_of, blank_record, Tidy, Whole};
 
 use crate::kinds::{Kinds, narrow};
@@ -58,13 +60,15 @@ impl ShapeRecord {
 }
 
 /// The record of a place is met by a shape that comes from another place. NoStart is a fault of the place that the shape comes from,
-/// StacksDiffer one of the place that it meets.
-#[tactic(auto, using(crate::proofs::Joining::joining))]
+/// StacksDiffer one of the place that it meets. Where the stacks of both are of words and references, that of the record is so afterwards too,
+/// whatever the answer.
+#[tactic(auto, using(crate::proofs::Joining::joining, crate::proofs::Knowing::record_filled))]
 #[inline(always)]
 pub fn join(record: &mut ShapeRecord, shape: &Shape) -> Result<(), CodeFault>
     requires { Whole «record».old }
     ensures met { (f p q : ℕ) → join_of f p q (cell_of «record».old) (shape_as shape.now) ≡ told_between f p q (λ _. cell_of «record».new) result }
     ensures whole { Whole «record».new }
+    ensures known { Filled «record».old.depth «record».old.stack → AllKnown shape.now.stack → Filled «record».new.depth «record».new.stack }
 {
     match record.mark {
         ShapeMark::Blank => Err(CodeFault::NoStart),

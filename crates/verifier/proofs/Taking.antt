@@ -5,7 +5,7 @@ use Rattle.bytecode.specs.declared.instruction.Instruction.{Instruction}
 use Rattle.bytecode.specs.Instructions.{decode_at, starts_of}
 use Rattle.bytecode.specs.Outcome.{Fault, Out, bad, good, bind}
 use Rattle.bytecode.specs.Program.{Program}
-use Rattle.plan.specs.Programs.{function_at, code_at, variables_at, WellFormed}
+use Rattle.plan.specs.Programs.{function_at, code_at, variables_at, KnownSignatures, WellFormed}
 use Rattle.plan.specs.Shapes.{Shape}
 use Rattle.plan.specs.Effects.{effect}
 use Rattle.plan.specs.Plans.{successors, starts_at, entry_of}
@@ -122,13 +122,13 @@ module _ (P : Program) (f : ℕ) (rs : List ShapeRecord) (p : ℕ) (e : p ≡ lo
         (rw (a, b))
 
     -- a take leaves less
-    pub take_less : WellFormed P → (us : List ShapeRecord) → SizedAll (variables_at P f) (map cell_of rs)
+    pub take_less : KnownSignatures P → (us : List ShapeRecord) → SizedAll (variables_at P f) (map cell_of rs)
         → visit P f (map cell_of rs) p (shape_in (get_or rs p no_record)) ≡ good (map cell_of us)
         → SizedAll (variables_at P f) (map cell_of us) × (total (variables_at P f) (map cell_of us) < total (variables_at P f) (map cell_of rs))
-    take_less formed us z v =
+    take_less known us z v =
         on_good (Unit {0}) (λ U. SizedAll (variables_at P f) U × (total (variables_at P f) U < total (variables_at P f) (map cell_of rs)))
         (visit P f (map cell_of rs) p (shape_in (get_or rs p no_record))) (map cell_of us) v
-        (visit_lighter P formed f [] (map cell_of rs) p (shape_in (get_or rs p no_record)) (lowest_due rs p e h) z)
+        (visit_lighter P known f [] (map cell_of rs) p (shape_in (get_or rs p no_record)) (lowest_due rs p e h) z)
 
 -- ## The table before the first take
 

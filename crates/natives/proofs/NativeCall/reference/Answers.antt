@@ -20,4 +20,4 @@ returns c =
     (YieldsList-at c.filter.ensures.source (YieldsList-from_enumerate (YieldsList-from_slice mem cc) cc)) c.filter.ensures.closure (λ x b q k. search (rules, tests))))
     c.map.ensures.closure (λ x r q k. search (rules, tests)))
     ∙ ap (λ ns. nth ns c.args.position)
-    (numbers_counted ks ks mem mem 0 (omega arith) (λ j. ap (λ n. get_or ks n Unknown) (sym (zero-add j))) (λ j. ap (λ n. get_or mem n 0) (sym (zero-add j))))
+    (numbers_counted ks ks mem mem 0 (omega arith) (λ j l. ap (λ n. eq_kind (get_or ks n Unknown) Reference) (sym (zero-add j))) (λ j. ap (λ n. get_or mem n 0) (sym (zero-add j))))

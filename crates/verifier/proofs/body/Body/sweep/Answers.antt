@@ -4,6 +4,7 @@ use Rattle.bytecode.specs.Program.{Program}
 use Rattle.plan.specs.Programs.{variables_at}
 use Rattle.plan.specs.Plans.{starts_at}
 use Rattle.plan.specs.Sweep.{run, most}
+use Rattle.plan.proofs.Acting.{formed_known}
 use Rattle.plan.proofs.Judging.{most_bytes}
 use Rattle.shapes.specs.Records.{cell_of, shape_as}
 use Rattle.std.proofs.lemmas.Result.{err_from_is_err_and}
@@ -64,7 +65,7 @@ overflow_add-takes c =
 
 pub loop-place-smaller : goal.loop-place-smaller
 loop-place-smaller c =
-    (take_less (program_in c.args.self.now) c.args.self.now.function c.loop-place.table c.in-Some.place c.in-Some.ensures.0 c.in-Some.ensures.1 (well_formed c.args.self.now.«package».now) c.visit.new.table c.loop-place.invariant.2
+    (take_less (program_in c.args.self.now) c.args.self.now.function c.loop-place.table c.in-Some.place c.in-Some.ensures.0 c.in-Some.ensures.1 (formed_known (program_in c.args.self.now) (well_formed c.args.self.now.«package».now)) c.visit.new.table c.loop-place.invariant.2
     c.in_ok-from-2.ensures.met).1
 
 pub loop-place-preserved : goal.loop-place-preserved
@@ -72,7 +73,7 @@ loop-place-preserved c =
     let P : Program = program_in c.args.self.now in
     let f : ℕ = c.args.self.now.function in
     let n : ℕ = most P f (starts_at P f) in
-    let l = take_less P f c.loop-place.table c.in-Some.place c.in-Some.ensures.0 c.in-Some.ensures.1 (well_formed c.args.self.now.«package».now) c.visit.new.table c.loop-place.invariant.2 c.in_ok-from-2.ensures.met in
+    let l = take_less P f c.loop-place.table c.in-Some.place c.in-Some.ensures.0 c.in-Some.ensures.1 (formed_known P (well_formed c.args.self.now.«package».now)) c.visit.new.table c.loop-place.invariant.2 c.in_ok-from-2.ensures.met in
     let e : n - c.loop-place.takes - 1 ≡ n - (c.loop-place.takes + 1) = omega arith in (
       c.loop-place.invariant.0 ∙
           run_more P f c.loop-place.table c.in-Some.place c.in-Some.ensures.0 c.in-Some.ensures.1 (n - c.loop-place.takes) c.loop-place.takes (good (map cell_of c.visit.new.table))
