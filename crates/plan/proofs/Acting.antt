@@ -10,6 +10,7 @@ use Rattle.plan.specs.Programs.{nth, function_at, variables_at, AllKnown, KnownS
 use Rattle.plan.specs.Shapes.{Shape, Reach, Alike, Sized, eq_kind, eq_kinds}
 use Rattle.plan.specs.Effects.{Act, fixed, load, store, pop, dup, swap, alike, give, within, call_static, call_native, act_of, check, room, replace, popped, doubled, swapped, compared, returned, loaded, stored, keeping, perform, performed, effect}
 use Rattle.plan.proofs.Outcomes.{On}
+pub use Rattle.plan.specs.Effects.{LeavesKnown}
 
 -- ## The order: what the finer shape gives is good, and reaches what the coarser one gives
 
@@ -88,18 +89,7 @@ Kept V r = On (Unit {0}) (Sized V) r
 abbrev FilledOut : Out (List Kind) → Type 0
 FilledOut r = On (Unit {0}) Filled r
 
--- what an act leaves of its own is known
-abbrev pub LeavesKnown : Act → Type 0
-LeavesKnown (fixed taken left) = AllKnown left
-LeavesKnown (load i) = Unit {0}
-LeavesKnown (store i) = Unit {0}
-LeavesKnown pop = Unit {0}
-LeavesKnown dup = Unit {0}
-LeavesKnown swap = Unit {0}
-LeavesKnown alike = Unit {0}
-LeavesKnown (give k) = Unit {0}
-
-known_append : (ks ls : List Kind) → AllKnown ks → AllKnown ls → AllKnown (ks ++ ls)
+pub known_append : (ks ls : List Kind) → AllKnown ks → AllKnown ls → AllKnown (ks ++ ls)
 known_append [] ls h l = l
 known_append (k ∷ ks) ls h l = (h.0, known_append ks ls h.1 l)
 

@@ -6,7 +6,7 @@ use Rattle.bytecode.specs.declared.instruction.Instruction.{Instruction}
 use Rattle.bytecode.specs.declared.instruction.Instruction.TheVariants.{Nop, Pop, Dup, Swap, AconstNull, Aldc, Bipush, Ildc, Vload, Vstore, Binary, IfCmpeq, IfCmpne, IfIcmp, Goto, Invokestatic, Invokenative, Return, New, Newarray, Arraylength, Aaddf, Aadds, Imload, Cmload, Amload, Imstore, Cmstore, Amstore}
 use Rattle.bytecode.specs.Outcome.{Fault, Out, bad, good, bind}
 use Rattle.bytecode.specs.Program.{Signature, Function, Native, Program}
-use Rattle.plan.specs.Programs.{nth, function_at}
+use Rattle.plan.specs.Programs.{nth, function_at, AllKnown}
 use Rattle.plan.specs.Shapes.{Shape, eq_kind, eq_kinds}
 
 -- ## The instructions
@@ -26,6 +26,17 @@ pub data Act : Type 0 where
   alike : Act
   -- takes the only entry, of this kind
   give : Kind → Act
+
+-- what an act leaves of its own is a word or a reference
+abbrev pub LeavesKnown : Act → Type 0
+LeavesKnown (fixed taken left) = AllKnown left
+LeavesKnown (load i) = Unit {0}
+LeavesKnown (store i) = Unit {0}
+LeavesKnown pop = Unit {0}
+LeavesKnown dup = Unit {0}
+LeavesKnown swap = Unit {0}
+LeavesKnown alike = Unit {0}
+LeavesKnown (give k) = Unit {0}
 
 -- an index into a pool of so many entries
 abbrev pub within : ℕ → ℕ → Act → Option Act

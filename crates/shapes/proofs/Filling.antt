@@ -8,6 +8,7 @@ use Rattle.std.specs.List.{swap as exchanged}
 use Rattle.bytecode.specs.declared.kind.Kind.{Kind}
 use Rattle.bytecode.specs.declared.kind.Kind.TheVariants.{Unknown}
 use Rattle.plan.specs.Programs.{Known, AllKnown}
+use Rattle.plan.proofs.Acting.{known_append}
 use Rattle.shapes.specs.declared.table.ShapeMark.{ShapeMark}
 use Rattle.shapes.specs.Stacks.{stack_of, is_known, Filled}
 use Rattle.shapes.specs.Records.{Tidy}
@@ -21,10 +22,6 @@ known_at n xs i f h = f.used i ∙ lt-ltb i n h
 
 pub top_known : (n : ℕ) (xs : List Kind) → Filled n xs → (n ≡ 0 → ⊥) → is_known (get_or xs (n - 1) Unknown) ≡ true
 top_known n xs f h = known_at n xs (n - 1) f (omega arith)
-
-known_append : (ks ls : List Kind) → AllKnown ks → AllKnown ls → AllKnown (ks ++ ls)
-known_append [] ls h l = l
-known_append (k ∷ ks) ls h l = (h.0, known_append ks ls h.1 l)
 
 known_reverse : (ks : List Kind) → AllKnown ks → AllKnown (reverse ks)
 known_reverse [] h = tt

@@ -4,7 +4,6 @@ use Rattle.bytecode.specs.declared.kind.Kind.{Kind}
 use Rattle.bytecode.specs.declared.refusal.CodeFault.{CodeFault}
 use Rattle.bytecode.specs.declared.refusal.CodeFault.TheVariants.{Opcode, TooFew, TooMany, WrongKind, Variable, PoolIndex, NoStart, StacksDiffer, Return}
 use Rattle.bytecode.specs.Outcome.{Out, bad, good, code_number}
-use Rattle.plan.specs.Programs.{AllKnown}
 use Rattle.plan.specs.Effects.{Act, fixed, load, store, pop, dup, swap, alike, give}
 use Rattle.shapes.specs.declared.act.StackAct.{StackAct}
 use Rattle.shapes.specs.declared.act.StackAct.TheVariants.{Fixed, Load, Store, Pop, Dup, Swap, Alike, Give}
@@ -22,11 +21,6 @@ act_in Dup = dup
 act_in Swap = swap
 act_in Alike = alike
 act_in (Give k) = give k
-
--- what an act leaves on the stack beside what was there is a word or a reference
-abbrev pub LeftKnown : StackAct → Type 0
-LeftKnown (Fixed taken left) = AllKnown (one_or_none left)
-LeftKnown act = Unit {0}
 
 -- ## Faults and their places
 

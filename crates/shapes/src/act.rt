@@ -1,8 +1,8 @@
 // What instructions do to the stack and the variables of a shape.
 ghost use Rattle.std.specs.Prelude.{◌≡◌, ℕ, ◌≤◌};
 ghost use Rattle.plan.specs.Programs.{AllKnown};
-ghost use Rattle.plan.specs.Effects.{perform as perform_of, load as load_of, store as store_of};
-ghost use Rattle.shapes.specs.Acts.{act_in, told_at, LeftKnown};
+ghost use Rattle.plan.specs.Effects.{perform as perform_of, load as load_of, store as store_of, LeavesKnown};
+ghost use Rattle.shapes.specs.Acts.{act_in, told_at};
 ghost use Rattle.shapes.specs.Records.{shape_as};
 
 use crate::kinds::Kinds;
@@ -62,7 +62,7 @@ impl Shape {
     pub fn perform(&mut self, act: &StackAct, count: usize) -> Result<(), CodeFault>
         requires few { count ≤ 32 }
         ensures met { (f p : ℕ) → perform_of f p count (act_in act.now) (shape_as self.old) ≡ told_at f p (λ _. shape_as self.new) result }
-        ensures known { LeftKnown act.now → AllKnown self.old.stack → AllKnown self.new.stack }
+        ensures known { LeavesKnown (act_in act.now) → AllKnown self.old.stack → AllKnown self.new.stack }
     {
         match act {
             StackAct::Fixed(taken, left) => self.stack.replace(taken, *left),
